@@ -2,6 +2,8 @@ pub mod Examples
 pub mod Infos
 pub mod Lines
 pub mod Delivered
+pub mod ShortLines
+pub mod SomeLines
 pub mod FilesFound
 pub mod Named
 pub mod Procedures

@@ -1,5 +1,5 @@
 -- What a table tells of files that were found, as LISTFILE shows it.
-use Rattle.std.specs.Prelude.{◌≡◌, ℕ, List, [], ◌∷◌, codes, slice_get, Option, Result, Ok, Err, ⊤}
+use Rattle.std.specs.Prelude.{◌≡◌, ◌≤◌, ℕ, List, [], ◌∷◌, codes, length, slice_get, Option, Result, Ok, Err, ⊤}
 use Rattle.std.specs.List.{flat_map}
 use Rattle.std.specs.Option.{option_and_then, option_map, option_map_or}
 use Rattle.cms_text.specs.Texts.{coded}
@@ -59,6 +59,10 @@ line_told last t found = option_map_or (λ f. line_to last (told_columns (years_
 -- the lines of files that were found, as a table tells them
 abbrev pub lines_told : Columns → Accesses → List Found → List (List ℕ)
 lines_told last t found = flat_map (λ f. line_told last t f) found
+
+-- a line is told of one of them
+abbrev pub HasLines : Columns → Accesses → List Found → Type 0
+HasLines last t found = 1 ≤ length (lines_told last t found)
 
 -- ---- lines that are written
 

@@ -1,6 +1,8 @@
 // The lines of files, and their header.
-ghost use Rattle.std.specs.Prelude.{◌≡◌, ◌+◌, ◌/◌, ◌%◌, IfOk, take};
-ghost use Rattle.cms_search.specs.Telling.{spaced};
+ghost use Rattle.std.specs.Prelude.{◌≡◌, ◌≤◌, ◌+◌, ◌/◌, ◌%◌, ◌++◌, ◌∷◌, IfOk, OnOk, length, take};
+ghost use Rattle.cms_text.specs.Limits.{longest_text};
+ghost use Rattle.cms_text.specs.Numbers.{decimal_of};
+ghost use Rattle.cms_search.specs.Telling.{left_in, right_in, spaced};
 ghost use Rattle.cms_files.specs.Files.{mode_text};
 ghost use Rattle.cms_listfile.specs.Listing as spec;
 ghost use Rattle.cms_listfile.specs.declared.columns.Years.TheVariants.{Short, Whole};
@@ -116,29 +118,57 @@ fn mode_text(letter: u8, number: u8) -> [u8; 2]
     [letter, ones(u16::from(number))]
 }
 
+// Adds a blank, and a text at the left of so many places, in which it has room.
+fn add_text(alloc: Global, line: &mut Vec<u8>, width: usize, text: &[u8]) -> Result<(), AllocError>
+    requires { length text.now ≤ width }
+    ensures text { OnOk result (line.new.items ≡ line.old.items ++ 0x40 ∷ left_in width text.now) }
+    ensures short { OnOk result (length line.new.items ≤ length line.old.items + 1 + width) }
+{
+    add_left(alloc, line, width, text)
+}
+
+// Adds a blank, and a number at the right of so many places. It has ten digits at most.
+fn add_number(
+    alloc: Global,
+    line: &mut Vec<u8>,
+    width: usize,
+    number: u32,
+) -> Result<(), AllocError>
+    requires { width ≤ 10 }
+    ensures text { OnOk result (line.new.items
+        ≡ line.old.items ++ 0x40 ∷ right_in width (decimal_of number)) }
+    ensures short { OnOk result (length line.new.items ≤ length line.old.items + 11) }
+{
+    let digits = decimal(alloc, number)?;
+    add_right(alloc, line, width, digits.bytes())
+}
+
 impl ListedFile {
     fn to_name(&self, alloc: Global) -> Result<Vec<u8>, AllocError>
-        ensures { IfOk result (λ line. line.items
+        ensures text { IfOk result (λ line. line.items
             ≡ spaced (take 1 (spec.told_columns Short self.now))) }
+        ensures short { IfOk result (λ line. length line.items ≤ 8) }
     {
         first_column(alloc, 8, self.info.name.file.as_bytes())
     }
 
     fn to_kind(&self, alloc: Global) -> Result<Vec<u8>, AllocError>
-        ensures { IfOk result (λ line. line.items
+        ensures text { IfOk result (λ line. line.items
             ≡ spaced (take 2 (spec.told_columns Short self.now))) }
+        ensures short { IfOk result (λ line. length line.items ≤ 17) }
     {
         let mut line = self.to_name(alloc)?;
-        add_left(alloc, &mut line, 8, self.info.name.kind.as_bytes())?;
+        add_text(alloc, &mut line, 8, self.info.name.kind.as_bytes())?;
         Ok(line)
     }
 
     fn to_mode(&self, alloc: Global) -> Result<Vec<u8>, AllocError>
-        ensures { IfOk result (λ line. line.items
+        ensures text { IfOk result (λ line. line.items
             ≡ spaced (take 3 (spec.told_columns Short self.now))) }
+        ensures short { IfOk result (λ line. length line.items ≤ 20) }
     {
         let mut line = self.to_kind(alloc)?;
-        add_left(
+        add_text(
             alloc,
             &mut line,
             2,
@@ -148,61 +178,51 @@ impl ListedFile {
     }
 
     fn to_format(&self, alloc: Global) -> Result<Vec<u8>, AllocError>
-        ensures { IfOk result (λ line. line.items
+        ensures text { IfOk result (λ line. line.items
             ≡ spaced (take 5 (spec.told_columns Short self.now))) }
+        ensures short { IfOk result (λ line. length line.items ≤ 33) }
     {
         let mut line = self.to_mode(alloc)?;
-        add_left(alloc, &mut line, 1, &format_text(self.info.format))?;
-        add_right(
-            alloc,
-            &mut line,
-            5,
-            decimal(alloc, self.info.length)?.bytes(),
-        )?;
+        add_text(alloc, &mut line, 1, &format_text(self.info.format))?;
+        add_number(alloc, &mut line, 5, self.info.length)?;
         Ok(line)
     }
 
     fn to_alloc(&self, alloc: Global) -> Result<Vec<u8>, AllocError>
-        ensures { IfOk result (λ line. line.items
+        ensures text { IfOk result (λ line. line.items
             ≡ spaced (take 7 (spec.told_columns Short self.now))) }
+        ensures short { IfOk result (λ line. length line.items ≤ 55) }
     {
         let mut line = self.to_format(alloc)?;
-        add_right(
-            alloc,
-            &mut line,
-            8,
-            decimal(alloc, self.info.count)?.bytes(),
-        )?;
-        add_right(
-            alloc,
-            &mut line,
-            8,
-            decimal(alloc, self.info.blocks)?.bytes(),
-        )?;
+        add_number(alloc, &mut line, 8, self.info.count)?;
+        add_number(alloc, &mut line, 8, self.info.blocks)?;
         Ok(line)
     }
 
     fn to_short_date(&self, alloc: Global) -> Result<Vec<u8>, AllocError>
-        ensures { IfOk result (λ line. line.items
+        ensures text { IfOk result (λ line. line.items
             ≡ spaced (take 8 (spec.told_columns Short self.now))) }
+        ensures short { IfOk result (λ line. length line.items ≤ 75) }
     {
         let mut line = self.to_alloc(alloc)?;
-        add_left(alloc, &mut line, 17, &short_text(&self.info.stamp))?;
+        add_text(alloc, &mut line, 17, &short_text(&self.info.stamp))?;
         Ok(line)
     }
 
     fn to_whole_date(&self, alloc: Global) -> Result<Vec<u8>, AllocError>
-        ensures { IfOk result (λ line. line.items
+        ensures text { IfOk result (λ line. line.items
             ≡ spaced (take 8 (spec.told_columns Whole self.now))) }
+        ensures short { IfOk result (λ line. length line.items ≤ 75) }
     {
         let mut line = self.to_alloc(alloc)?;
-        add_left(alloc, &mut line, 19, &whole_text(&self.info.stamp))?;
+        add_text(alloc, &mut line, 19, &whole_text(&self.info.stamp))?;
         Ok(line)
     }
 
     fn to_date(&self, alloc: Global, years: Years) -> Result<Vec<u8>, AllocError>
-        ensures { IfOk result (λ line. line.items
+        ensures text { IfOk result (λ line. line.items
             ≡ spaced (take 8 (spec.told_columns years self.now))) }
+        ensures short { IfOk result (λ line. length line.items ≤ 75) }
     {
         match years {
             Years::Short => self.to_short_date(alloc),
@@ -211,19 +231,21 @@ impl ListedFile {
     }
 
     fn to_label(&self, alloc: Global, years: Years) -> Result<Vec<u8>, AllocError>
-        ensures { IfOk result (λ line. line.items
+        ensures text { IfOk result (λ line. line.items
             ≡ spaced (take 9 (spec.told_columns years self.now))) }
+        ensures short { IfOk result (λ line. length line.items ≤ 82) }
     {
         let mut line = self.to_date(alloc, years)?;
-        add_left(alloc, &mut line, 6, &self.volid)?;
+        add_text(alloc, &mut line, 6, &self.volid)?;
         Ok(line)
     }
 
-    // The columns up to this one, with one blank between.
+    // The columns up to this one, with one blank between: at most 82 bytes.
     fn columns_to(&self, alloc: Global, last: Columns) -> Result<Vec<u8>, AllocError>
-        ensures { IfOk result (λ line. line.items
+        ensures text { IfOk result (λ line. line.items
             ≡ spaced (take (spec.count_of last)
             (spec.told_columns (spec.years_of last) self.now))) }
+        ensures short { IfOk result (λ line. length line.items ≤ 82) }
     {
         match last {
             Columns::Name => self.to_name(alloc),
@@ -236,13 +258,15 @@ impl ListedFile {
         }
     }
 
-    /// The line of the file with its columns up to this one.
+    /// The line of the file with its columns up to this one, which has room in a text.
     pub fn line(&self, alloc: Global, last: Columns) -> Result<Vec<u8>, AllocError>
-        ensures { IfOk result (λ line. line.items
+        ensures text { IfOk result (λ line. line.items
             ≡ spec.line_to last (spec.told_columns (spec.years_of last) self.now)) }
+        ensures short { IfOk result (λ line. length line.items ≤ longest_text) }
     {
         let columns = self.columns_to(alloc, last)?;
-        without_trailing_blanks(&columns).to_vec(alloc)
+        let line = without_trailing_blanks(&columns).to_vec(alloc)?;
+        Ok(line)
     }
 }
 
@@ -277,9 +301,10 @@ fn width(last: Columns) -> usize
     }
 }
 
-/// The header of the columns up to this one.
+/// The header of the columns up to this one, which has room in a text.
 pub fn header(alloc: Global, last: Columns) -> Result<Vec<u8>, AllocError>
-    ensures { IfOk result (λ line. line.items ≡ spec.header last) }
+    ensures text { IfOk result (λ line. line.items ≡ spec.header last) }
+    ensures short { IfOk result (λ line. length line.items ≤ longest_text) }
 {
     let text = full_header(last.years());
     let line = without_trailing_blanks(&text[..width(last)]).to_vec(alloc)?;

@@ -11,7 +11,6 @@ use crate::line::ListedFile;
 use cms_files::info_found;
 use cms_line::{Line, Lines};
 use cms_search::{End, Found, Table, say};
-use cms_text::LONGEST_TEXT;
 use cms_world::World;
 use std::alloc::{AllocError, Global};
 
@@ -64,16 +63,6 @@ pub fn type_files<W: World>(
     Ok(())
 }
 
-/// A line, of which no listing has one that is longer than 255 bytes.
-pub fn short_line(line: Vec<u8>) -> Result<Line, AllocError>
-    ensures { IfOk result (λ short. short ≡ line.items) }
-{
-    if line.len() > LONGEST_TEXT {
-        return Err(AllocError);
-    }
-    Ok(Line::take(line))
-}
-
 // Adds the line of a file.
 fn add_file(
     alloc: Global,
@@ -87,7 +76,8 @@ fn add_file(
     let Some(file) = listed_at(table, found) else {
         return Ok(());
     };
-    lines.push(short_line(file.line(alloc, last)?)?)
+    let line = file.line(alloc, last)?;
+    lines.push(Line::take(line))
 }
 
 /// Adds the lines of files that were found, with their columns up to this one.

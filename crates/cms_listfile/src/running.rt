@@ -12,6 +12,7 @@ ghost use Rattle.cms_world.specs.Seen.{seen};
 ghost use Rattle.cms_listfile.specs.Listfile as spec;
 ghost use Rattle.cms_listfile.specs.Listing.{lines_of};
 ghost use Rattle.cms_listfile.specs.Told.{
+  HasLines,
   MayDeliver,
   StacksFound,
   StacksLine,
@@ -21,10 +22,10 @@ ghost use Rattle.cms_listfile.specs.Told.{
 
 use crate::line::header;
 use crate::listfile::{Delivery, ListLine, ListStyle, list_line};
-use crate::listing::{add_files, short_line, type_files};
+use crate::listing::{add_files, type_files};
 use crate::writing::{DISK_A, write_listing};
 use cms_files::{StackEnd, refuse_unfound, stack_lines};
-use cms_line::{Lines, Tokens};
+use cms_line::{Line, Lines, Tokens};
 use cms_search::{Course, End, Found, FoundList, SearchFault, State, Table, refuse_command, say};
 use cms_world::World;
 use std::alloc::{AllocError, Global};
@@ -49,6 +50,7 @@ fn files_listed(alloc: Global, table: &Table, line: &ListLine) -> Result<FoundLi
     ensures refused { IfErr result (λ e. (e ≡ Memory)
         ⊎ ((s : Machine) → Shows table.now s → spec.files_listed s line.now ≡ Err e)) }
     ensures may { OnOk result (MayDeliver table.now line.now.style.delivery) }
+    ensures some { IfOk result (λ found. HasLines line.now.style.columns table.now found) }
 {
     let files = &line.files;
     let found = table.matches(alloc, &files.file, &files.kind, &files.mode)?;
@@ -97,7 +99,8 @@ fn heading(alloc: Global, style: &ListStyle) -> Result<Lines, AllocError>
     if !style.header {
         return Ok(lines);
     }
-    lines.push(short_line(header(alloc, style.columns)?)?)?;
+    let line = header(alloc, style.columns)?;
+    lines.push(Line::take(line))?;
     Ok(lines)
 }
 
@@ -135,6 +138,7 @@ fn deliver<W: World>(
 ) -> Result<Course, End>
     requires usable { IsUsable (spot W.World world.old state.old) }
     requires may { MayDeliver state.old.table style.now.delivery }
+    requires some { HasLines style.now.columns state.old.table found.now }
     requires moment { is_moment state.old.moment ≡ true }
     ensures acts { Acts (spot W.World world.old state.old) (spot W.World world.new state.new)
         (λ units. spec.delivering (machine_of state.old units) style.now style.now.delivery

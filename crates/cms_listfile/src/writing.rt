@@ -2,6 +2,7 @@
 ghost use Rattle.std.specs.Prelude.{◌≡◌, ◌++◌, ◌∷◌, ℕ, List, codes, true, IfOk, OnOk, Ok, Some};
 ghost use Rattle.cms_fields.specs.Moments.{is_moment};
 ghost use Rattle.cms_fields.specs.Stamps.{is_stamp};
+ghost use Rattle.cms_disk.specs.Disks.{IsFileInfo};
 ghost use Rattle.cms_model.specs.Changes.{Put};
 ghost use Rattle.cms_names.specs.declared.name.Format.{Format};
 ghost use Rattle.cms_names.specs.declared.name.Format.TheVariants.{F};
@@ -17,7 +18,7 @@ ghost use Rattle.cms_listfile.specs.Listing.{lines_of};
 ghost use Rattle.cms_listfile.specs.Told as told;
 
 use crate::columns::Columns;
-use crate::listing::{listed_at, short_line};
+use crate::listing::listed_at;
 use cms_disk::{FileData, FileInfo};
 use cms_fields::Stamp;
 use cms_files::{Gathered, exec_kind, info_named, write_last};
@@ -71,8 +72,8 @@ fn gather_file(
     let Some(file) = listed_at(table, found) else {
         return Ok(());
     };
-    let line = short_line(file.line(alloc, last)?)?;
-    let text = procedure_line(alloc, line.bytes())?;
+    let line = file.line(alloc, last)?;
+    let text = procedure_line(alloc, &line)?;
     records.push(&text)
 }
 
@@ -116,7 +117,7 @@ fn new_procedure(
     Ok(records.data(WRITTEN_NUMBER, stamp).unwrap())
 }
 
-// The lines of files, as records of a file of which this is told. There are some, since files were found.
+// The lines of files, of which there is one, as records of a file of which this is told.
 fn more_lines(
     alloc: Global,
     table: &Table,
@@ -125,14 +126,16 @@ fn more_lines(
     info: &FileInfo,
     stamp: &Stamp,
 ) -> Result<FileData, AllocError>
-    requires { is_stamp stamp.now ≡ true }
+    requires some { told.HasLines last table.now found.now }
+    requires sound { IsFileInfo info.now }
+    requires stamp { is_stamp stamp.now ≡ true }
     ensures { IfOk result (AreData info.now.format info.now.length 1 stamp.now
         (spec.records_in info.now.format info.now.length
         (spec.procedure_lines (told.lines_told last table.now found.now)))) }
 {
     let mut records = Gathered::new(alloc, info.format, info.length);
     gather_files(alloc, &mut records, table, last, found)?;
-    records.data(WRITTEN_NUMBER, stamp).ok_or(AllocError)
+    Ok(records.data(WRITTEN_NUMBER, stamp).unwrap())
 }
 
 // Writes the lines of files into a new procedure.
@@ -183,6 +186,8 @@ fn write_more<W: World>(
         ≡ Ok tt }
     requires there { named.info_named state.old.table spec.disk_a spec.written_name
         ≡ Some info.now }
+    requires some { told.HasLines last state.old.table found.now }
+    requires sound { IsFileInfo info.now }
     requires moment { is_moment state.old.moment ≡ true }
     ensures acts { Acts (spot W.World world.old state.old) (spot W.World world.new state.new)
         (λ units. last_update (machine_of state.old units) spec.disk_a
@@ -218,6 +223,7 @@ pub fn write_listing<W: World>(
     requires usable { IsUsable (spot W.World world.old state.old) }
     requires writing { writing (item_at (letters_of state.old.table) spec.disk_a) spec.disk_a
         ≡ Ok tt }
+    requires some { told.HasLines last state.old.table found.now }
     requires moment { is_moment state.old.moment ≡ true }
     ensures acts { Acts (spot W.World world.old state.old) (spot W.World world.new state.new)
         (λ units. spec.writing (machine_of state.old units) append

@@ -16,4 +16,4 @@ returns-in_err-line g c =
 pub returns : goal.returns
 returns g c =
     said_one _ _ c.deref.result.now _ c.say.result
-    (told_line c.args.last c.args.table.now c.args.found c.in-Some.file c.deref.result.now (sym c.in-Some.ensures) (c.deref.ensures.value ∙ c.in_ok-line.ensures)) c.say.ensures
+    (told_line c.args.last c.args.table.now c.args.found c.in-Some.file c.deref.result.now (sym c.in-Some.ensures) (c.deref.ensures.value ∙ c.in_ok-line.ensures.text)) c.say.ensures

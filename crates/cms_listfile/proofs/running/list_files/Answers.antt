@@ -17,6 +17,9 @@ returns-in-Ok-clause-acts g c =
     acts_found old new c.args.words.now 1 (λ m found. delivering m line.style line.style.delivery (lines_of m line.style.columns found)) (λ m. files_listed m line) c.in-Ok.found c.deliver.result _
     (λ units h. c.in-Ok.ensures.found (machine_of st units) (holds_shows old units h)) (rw same at c.deliver.ensures.acts)
 
+pub deliver-requires-clause-some : goal.deliver-requires-clause-some
+deliver-requires-clause-some g c = let same = c.as_slice.ensures in rw same c.in-Ok.ensures.some
+
 pub returns-in-Err-clause-acts : goal.returns-in-Err-clause-acts
 returns-in-Err-clause-acts g c =
     let st = c.args.state.now in

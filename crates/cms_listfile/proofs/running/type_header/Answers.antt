@@ -17,4 +17,4 @@ returns-in_err-line g c =
 pub returns : goal.returns
 returns g c =
     let on : c.args.style.now.header ≡ true = search rules in
-    header_said _ _ c.args.style.now c.deref.result.now c.say.result on (c.deref.ensures.value ∙ c.in_ok-line.ensures) c.say.ensures
+    header_said _ _ c.args.style.now c.deref.result.now c.say.result on (c.deref.ensures.value ∙ c.in_ok-line.ensures.text) c.say.ensures

@@ -11,9 +11,9 @@ returns-in_default c = λ format size some is.
 
 pub returns : goal.returns
 returns c = λ format size some is.
-    let line = c.in_ok-line-2.line in
-    let text = c.deref.result.now in
-    let told = told_line c.args.last c.args.table.now c.args.found c.in-Some.file line (sym c.in-Some.ensures) (c.in_ok-line-2.ensures ∙ c.in_ok-line.ensures) in
+    let line = c.in_ok-line.line.items in
+    let text = c.deref-2.result.now in
+    let told = told_line c.args.last c.args.table.now c.args.found c.in-Some.file line (sym c.in-Some.ensures) c.in_ok-line.ensures.text in
     on_ok c.push.result _ _
     (λ more. one_gathered format size some c.args.last c.args.table.now c.args.found line text _ told
-    (c.deref.ensures.value ∙ c.in_ok-text.ensures ∙ ap (λ (l : List ℕ). coded (codes "&1 &2 ") ++ l) c.bytes.ensures.bytes) more) (c.push.ensures format size some is)
+    (c.deref-2.ensures.value ∙ c.in_ok-text.ensures ∙ ap (λ (l : List ℕ). coded (codes "&1 &2 ") ++ l) c.deref.ensures.value) more) (c.push.ensures format size some is)

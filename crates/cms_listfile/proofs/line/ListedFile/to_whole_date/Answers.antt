@@ -4,7 +4,7 @@ use Rattle.cms_listfile.specs.declared.columns.Years.TheVariants.{Whole}
 use Rattle.cms_listfile.proofs.Lines.{date_added}
 use Rattle.cms_listfile.proofs.line.ListedFile.to_whole_date.Goals as goal
 
-pub returns : goal.returns
-returns c =
-    date_added Whole c.args.self.now c.in_ok-line.line.items c.add_left.new.line.items c.in_ok-line.ensures
-    (c.in_ok-add_left.ensures ∙ ap (λ (t : List ℕ). c.in_ok-line.line.items ++ 0x40 ∷ left_in 19 t) c.whole_text.ensures)
+pub returns-clause-text : goal.returns-clause-text
+returns-clause-text c =
+    date_added Whole c.args.self.now c.in_ok-line.line.items c.add_text.new.line.items c.in_ok-line.ensures.text
+    (c.in_ok-add_text.ensures.text ∙ ap (λ (t : List ℕ). c.in_ok-line.line.items ++ 0x40 ∷ left_in 19 t) c.whole_text.ensures)
