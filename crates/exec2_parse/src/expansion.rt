@@ -1,5 +1,5 @@
 // The expansion of a word.
-ghost use Rattle.std.specs.Prelude.{◌≡◌, ◌≤◌, ◌+◌, ◌++◌, length, true, Ok, Err, IfOk, MatchOption};
+ghost use Rattle.std.specs.Prelude.{◌≡◌, ◌==◌, ◌≤◌, ◌+◌, ◌++◌, length, true, Ok, Err, IfOk, MatchOption};
 ghost use Rattle.exec2_parse.specs.Expansion.{KeepsPlainWords, ReplacesFromTheRight, SplitsAtLast, ampersands, expanded};
 ghost use Rattle.exec2_parse.specs.Expansion as spec;
 ghost use Rattle.exec2_parse.specs.Variables.{value_of};
@@ -74,6 +74,16 @@ pub fn expansion_laws()
     ensures plain { KeepsPlainWords }
     ensures last { ReplacesFromTheRight }
 {}
+
+/// Whether a word has no ampersand: it stays as it is.
+pub fn is_plain(word: &[u8]) -> bool
+    ensures { result ≡ (ampersands word.now == 0) }
+{
+    match split_at_last_ampersand(word) {
+        Some(_) => false,
+        None => true,
+    }
+}
 
 /// What stands before the last ampersand of a word, and what stands behind it.
 fn split_at_last_ampersand(word: &[u8]) -> Option<(&[u8], &[u8])>

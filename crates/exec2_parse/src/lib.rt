@@ -12,8 +12,8 @@ mod statement;
 mod vars;
 mod words;
 
-pub use expansion::{ExpandFault, expand, expand_in, expansion_laws};
-pub use fold::{capitals, folded};
+pub use expansion::{ExpandFault, expand, expand_in, expansion_laws, is_plain};
+pub use fold::{capitals, folded, is_folded};
 pub use keyword::is_spelled;
 pub use kind::{Control, Kind, kind_of};
 pub use numbers::{numeral, written};

@@ -1,5 +1,5 @@
 // The variables of a procedure.
-ghost use Rattle.std.specs.Prelude.{◌≡◌, ◌==◌, OnOk, OnErr, IfOk, None};
+ghost use Rattle.std.specs.Prelude.{◌≡◌, ◌==◌, OnOk, OnErr, IfOk, IfErr, IsSome, None};
 ghost use Rattle.std.specs.Option.{option_copied};
 ghost use Rattle.std.specs.FinMap as finite;
 
@@ -54,6 +54,23 @@ impl Vars {
         ensures new { OnErr result (finite.get self.old name ≡ None) }
     {
         Ok(self.values.insert(name.into_bytes(), value)?)
+    }
+
+    /// Sets a variable that is set, which takes no memory. The value of one that isn't comes back.
+    pub fn put(&mut self, name: &[u8], value: Word) -> Result<(), Word>
+        ensures ok { OnOk result (self.new ≡ finite.insert self.old name.now value) }
+        ensures set { OnOk result (IsSome (finite.get self.old name.now)) }
+        ensures unset { OnErr result (finite.get self.old name.now ≡ None) }
+        ensures err { OnErr result (self.new ≡ self.old) }
+        ensures back { IfErr result (λ back. back ≡ value) }
+    {
+        match self.values.get_mut(name) {
+            Some(place) => {
+                *place = value;
+                Ok(())
+            }
+            None => Err(value),
+        }
     }
 
     /// Forgets the variable, if it is set.
