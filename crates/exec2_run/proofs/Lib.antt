@@ -1,4 +1,5 @@
 mod Blocks
+mod Borrows
 mod ByCases
 mod ByLabels
 mod ByRelation
@@ -7,5 +8,6 @@ mod OneWord
 pub mod Places
 mod Searches
 mod Settled
+mod Sums
 mod Tails
 mod Undone

@@ -202,12 +202,17 @@ right_side names words = value_by (function_in words) names words
 
 -- ---- the statement: a target, an equal sign, and a right side
 
+-- a variable has the value of the right side
+abbrev pub named : Procedure → Text → List Text → Step
+named s name words = do
+  v ← right_side (seen s) words
+  set_to s name v
+
 -- the target has the value of the right side
 abbrev pub assigned_to : Procedure → Text → List Text → Step
 assigned_to s name words = do
   n ← target (seen s) name
-  v ← right_side (seen s) words
-  set_to s n v
+  named s n words
 
 -- an assignment
 unfoldable pub assigned : Procedure → List Text → Step

@@ -1,11 +1,12 @@
 -- Variables that are set, the arguments among them (VM/SP EXEC 2 Reference, variables and arguments).
-use Rattle.std.specs.Prelude.{ℕ, ◌+◌, ◌==◌, nat_le, Bool, ◌||◌, if◌then◌else◌, List, [], ◌∷◌, map, length, drop, is_some, Option, Some, None, Result, Ok, Err}
+use Rattle.std.specs.Prelude.{◌≡◌, ℕ, ◌+◌, ◌==◌, nat_le, Bool, true, false, ◌||◌, if◌then◌else◌, List, [], ◌∷◌, map, length, drop, is_some, Option, Some, None, Result, Ok, Err}
 use Rattle.std.specs.FinMap.{empty, get, insert, len, remove}
+use Rattle.std.specs.List.{list_all}
 use Rattle.cms_fields.specs.Steps.{◌>>=◌, ◌>>◌}
 use Rattle.cms_ebcdic.specs.CodePage.{upper_of}
 use Rattle.cms_text.specs.Numbers.{decimal_of}
 use Rattle.cms_text.specs.Texts.{Text}
-use Rattle.exec2_parse.specs.Expansion.{Binding}
+use Rattle.exec2_parse.specs.Expansion.{Binding, ampersands}
 use Rattle.exec2_parse.specs.Variables.{Values}
 use Rattle.exec2_run.specs.Values.{value}
 use Rattle.exec2_run.specs.Given.{is_argument, is_given, table_of}
@@ -25,6 +26,13 @@ target names [] = Err BadStatement
 target names (byte ∷ bytes) = if byte == 0x50 then (do
   name ← value names bytes
   settable (map upper_of name)) else Err BadStatement
+
+-- a word is an ampersand and this name of a variable, which stands in capital letters, has no ampersand and isn't given
+pub record NamesVariable (word name : Text) : Type 0 where
+  pub word_is : word ≡ 0x50 ∷ name
+  pub plain : ampersands name ≡ 0
+  pub folded : list_all (λ byte. upper_of byte == byte) name ≡ true
+  pub own : is_given name ≡ false
 
 -- so many variables, of which at most 1,000 are set
 abbrev pub room_for : ℕ → Result (Unit {0}) Fault

@@ -1,13 +1,17 @@
 // Assignments: the value of a right side.
-ghost use Rattle.std.specs.Prelude.{◌≡◌, ◌∷◌, [], IfOk, IfSome, Ok, drop};
+ghost use Rattle.std.specs.Prelude.{◌≡◌, ◌≤◌, IfOk, IfSome, Ok, drop, length};
+ghost use Rattle.cms_text.specs.Limits.{longest_text};
+ghost use Rattle.cms_text.specs.Numbers as numbers;
 ghost use Rattle.exec2_run.specs.Assignments as spec;
 ghost use Rattle.exec2_run.specs.Given.{bound};
 ghost use Rattle.exec2_run.specs.Faults.{Answers, Does};
 
+use crate::borrowed::{borrowed, borrowed_target};
 use crate::exec::ExecState;
 use crate::given::Seen;
 use crate::values::{Operands, arguments, expanded_words, value, whole};
 use crate::variables::target;
+use crate::words::only;
 use crate::{Fault, Want};
 use cms_text::{Word, WordList, is_keyword, number};
 use exec2_funcs::{FuncFault, Function, call};
@@ -51,9 +55,24 @@ impl ExecState {
     fn assign_to(&mut self, name: &Word, right: &[Word]) -> Result<Want, Fault>
         ensures { Does (spec.assigned_to self.old name.now right.now) self.old self.new result }
     {
+        if let Some(name) = borrowed_target(name.bytes()) {
+            return self.assign_named(name, right);
+        }
         let name = target(self.alloc, &self.seen(), name)?;
         let value = right_side(self.alloc, &self.seen(), right)?;
         match self.set_to(name, value) {
+            Ok(want) => Ok(want),
+            Err(fault) => Err(fault),
+        }
+    }
+
+    /// The same of a name that stands there as it is.
+    fn assign_named(&mut self, name: &[u8], right: &[Word]) -> Result<Want, Fault>
+        requires { length name.now ≤ longest_text }
+        ensures { Does (spec.named self.old name.now right.now) self.old self.new result }
+    {
+        let value = right_side(self.alloc, &self.seen(), right)?;
+        match self.set_named(name, value) {
             Ok(want) => Ok(want),
             Err(fault) => Err(fault),
         }
@@ -68,19 +87,29 @@ fn right_side(alloc: Global, seen: &Seen<'_>, words: &[Word]) -> Result<Word, Fa
     if let Some(word) = only(words) {
         return value(alloc, seen, word);
     }
+    if let Some(total) = sum_of_two(seen, words) {
+        return Ok(written(alloc, total)?);
+    }
     if let Some(function) = function_of(words) {
         return function_value(alloc, seen, function, behind_of(words));
     }
     plain_value(alloc, &expanded_words(alloc, seen, words)?)
 }
 
-/// The only word.
-fn only(words: &[Word]) -> Option<&Word>
-    ensures { IfSome result (λ word. words.now ≡ word.now ∷ []) }
+/// The sum of two numbers with a sign between them, none of which is copied.
+fn sum_of_two(seen: &Seen<'_>, words: &[Word]) -> Option<i64>
+    ensures { IfSome result (λ total. spec.right_side (bound seen.now) words.now
+        ≡ Ok (numbers.written total)) }
 {
-    match words {
-        [word] => Some(word),
-        _ => None,
+    let [left, sign, right] = words else {
+        return None;
+    };
+    let sign = sign_of(sign.bytes())?;
+    let left = number(borrowed(seen, left.bytes())?)?;
+    let right = number(borrowed(seen, right.bytes())?)?;
+    match sign.apply(left, right) {
+        Ok(total) => Some(total),
+        Err(_) => None,
     }
 }
 

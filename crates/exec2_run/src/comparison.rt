@@ -1,16 +1,19 @@
 // Comparisons.
-ghost use Rattle.std.specs.Prelude.{◌≡◌, IfOk};
+ghost use Rattle.std.specs.Prelude.{◌≡◌, IfSome, Ok};
 ghost use Rattle.exec2_run.specs.Comparisons as spec;
 ghost use Rattle.exec2_run.specs.Given.{bound};
 ghost use Rattle.exec2_run.specs.Faults.{Answers};
+ghost use Rattle.exec2_run.specs.Steps.{compared};
 
 use crate::Fault;
+use crate::borrowed::borrowed;
 use crate::given::Seen;
 use crate::loops::Test;
 use crate::values::value;
 use cms_text::{BLANK, Word, is_keyword, number};
-use std::alloc::{AllocError, Global};
+use std::alloc::Global;
 use std::cmp::Ordering;
+use std::iter::repeat_n;
 
 /// How two words are compared (VM/SP EXEC 2 Reference, &IF and &LOOP).
 #[derive(Clone, Copy)]
@@ -101,15 +104,10 @@ impl Comparison {
 }
 
 /// Whether a comparison holds of two words that were expanded.
-pub fn holds(
-    alloc: Global,
-    comparison: Comparison,
-    left: &Word,
-    right: &Word,
-) -> Result<bool, AllocError>
-    ensures { IfOk result (λ it. it ≡ spec.holds comparison left.now right.now) }
+pub fn holds(comparison: Comparison, left: &[u8], right: &[u8]) -> bool
+    ensures { result ≡ spec.holds comparison left.now right.now }
 {
-    Ok(comparison.holds_at(order(alloc, left.bytes(), right.bytes())?))
+    comparison.holds_at(order(left, right))
 }
 
 /// Whether the comparison of a WHILE or UNTIL holds now.
@@ -117,35 +115,53 @@ pub fn holds(
 pub fn test_holds(alloc: Global, seen: &Seen<'_>, test: &Test) -> Result<bool, Fault>
     ensures { Answers (spec.test_holds (bound seen.now) test.now) result }
 {
+    if let Some(it) = holds_borrowed(seen, test) {
+        return Ok(it);
+    }
     let left = value(alloc, seen, &test.left)?;
     let right = value(alloc, seen, &test.right)?;
-    Ok(holds(alloc, test.comparison, &left, &right)?)
+    Ok(holds(test.comparison, left.bytes(), right.bytes()))
+}
+
+/// The same of words whose values are borrowed.
+#[tactic(auto, unfolding(crate::specs::Comparisons::test_holds))]
+fn holds_borrowed(seen: &Seen<'_>, test: &Test) -> Option<bool>
+    ensures { IfSome result (λ it. spec.test_holds (bound seen.now) test.now ≡ Ok it) }
+{
+    let left = borrowed(seen, test.left.bytes())?;
+    let right = borrowed(seen, test.right.bytes())?;
+    Some(holds(test.comparison, left, right))
+}
+
+/// Whether the comparison of an &IF holds, where the values of its words are borrowed.
+pub fn compared(seen: &Seen<'_>, left: &[u8], sign: &[u8], right: &[u8]) -> Option<bool>
+    ensures { IfSome result (λ it. compared (bound seen.now) left.now sign.now right.now ≡ Ok it) }
+{
+    let left = borrowed(seen, left)?;
+    let comparison = Comparison::read(sign)?;
+    let right = borrowed(seen, right)?;
+    Some(holds(comparison, left, right))
 }
 
 /// The order of two words: two numbers as numbers, else bytes in the order of the code page, the shorter word filled with blanks.
 #[tactic(auto, unfolding(crate::specs::Comparisons::order))]
-fn order(alloc: Global, left: &[u8], right: &[u8]) -> Result<Ordering, AllocError>
-    ensures { IfOk result (λ order. order ≡ spec.order left.now right.now) }
+fn order(left: &[u8], right: &[u8]) -> Ordering
+    ensures { result ≡ spec.order left.now right.now }
 {
     match (number(left), number(right)) {
-        (Some(left), Some(right)) => Ok(left.cmp(&right)),
-        _ => order_of_texts(alloc, left, right),
+        (Some(left), Some(right)) => left.cmp(&right),
+        _ => order_of_texts(left, right),
     }
 }
 
-fn order_of_texts(alloc: Global, left: &[u8], right: &[u8]) -> Result<Ordering, AllocError>
-    ensures { IfOk result (λ order. order ≡ spec.order_of_texts left.now right.now) }
+/// That of two texts, as if blanks stood behind the shorter one.
+fn order_of_texts(left: &[u8], right: &[u8]) -> Ordering
+    ensures { result ≡ spec.order_of_texts left.now right.now }
 {
-    let left_filled = filled(alloc, left, right.len())?;
-    let right_filled = filled(alloc, right, left.len())?;
-    Ok(left_filled.as_slice().cmp(right_filled.as_slice()))
-}
-
-/// The text filled with blanks to at least this length.
-fn filled(alloc: Global, text: &[u8], size: usize) -> Result<Vec<u8>, AllocError>
-    ensures { IfOk result (λ bytes. bytes.items ≡ spec.filled size text.now) }
-{
-    let mut bytes = text.to_vec(alloc)?;
-    bytes.resize(size.max(text.len()), BLANK)?;
-    Ok(bytes)
+    let behind_left = right.len().saturating_sub(left.len());
+    let behind_right = left.len().saturating_sub(right.len());
+    left.iter()
+        .copied()
+        .chain(repeat_n(BLANK, behind_left))
+        .cmp(right.iter().copied().chain(repeat_n(BLANK, behind_right)))
 }

@@ -8,7 +8,7 @@ ghost use Rattle.exec2_run.specs.Due.{at_place, place_of, words_due};
 ghost use Rattle.exec2_run.specs.Steps.{Takes};
 
 use crate::calls::{Calls, line_of_last};
-use crate::comparison::{Comparison, holds};
+use crate::comparison::{Comparison, compared, holds};
 use crate::destination::Destination;
 use crate::given::{AtStart, Seen, Standing, behind_name};
 use crate::loops::Loops;
@@ -539,10 +539,13 @@ impl ExecState {
     fn compare(&self, left: &Word, sign: &Word, right: &Word) -> Result<bool, Fault>
         ensures { Answers (spec.compared (seen self.now) left.now sign.now right.now) result }
     {
+        if let Some(it) = compared(&self.seen(), left.bytes(), sign.bytes(), right.bytes()) {
+            return Ok(it);
+        }
         let left = value(self.alloc, &self.seen(), left)?;
         let comparison = Comparison::read(sign.bytes()).ok_or(Fault::BadStatement)?;
         let right = value(self.alloc, &self.seen(), right)?;
-        Ok(holds(self.alloc, comparison, &left, &right)?)
+        Ok(holds(comparison, left.bytes(), right.bytes()))
     }
 
     /// Runs a statement of this kind that no &IF guards.

@@ -1,15 +1,18 @@
 // Labels, &GOTO and &SKIP.
-ghost use Rattle.std.specs.Prelude.{◌≡◌, ◌≤◌, ◌<◌, ◌^◌, length, drop, true, IfSome};
+ghost use Rattle.std.specs.Prelude.{◌≡◌, ◌≤◌, ◌<◌, ◌^◌, ◌∷◌, [], ◌⊎◌, length, drop, true, false, IfSome, MatchResult, Ok, Err};
 ghost use Rattle.std.specs.List.{position_from};
 ghost use Rattle.exec2_run.specs.Faults.{Does};
 ghost use Rattle.exec2_run.specs.Jumps as spec;
+ghost use Rattle.exec2_run.specs.Values.{operands};
+ghost use Rattle.exec2_parse.specs.Expansion.{Binding};
 ghost use Rattle.exec2_parse.specs.Words.{has_label, is_label};
 
 use crate::exec::ExecState;
 use crate::values::{ended, expanded_words, missing, whole};
+use crate::words::only;
 use crate::{Fault, Want};
 use cms_text::{BLANK, Word, first_word, number};
-use exec2_parse::{Procedure, is_label};
+use exec2_parse::{Procedure, is_label, is_plain};
 
 const HYPHEN: u8 = 0x60;
 
@@ -44,6 +47,19 @@ pub fn label_from(lines: &Procedure, label: &[u8], from: u32) -> Option<u32>
     None
 }
 
+/// The only word, a label without variables.
+#[tactic(auto, using(crate::proofs::Borrows::label_stays))]
+fn only_label(words: &[Word]) -> Option<&[u8]>
+    ensures { IfSome result (λ label. (names : Binding) → operands names words.now
+        ≡ record { words = label.now ∷ []; is_cut = false }) }
+{
+    let word = only(words)?.bytes();
+    if !is_label(word) || !is_plain(word) {
+        return None;
+    }
+    Some(word)
+}
+
 impl ExecState {
     /// The place of the first line with a label, from the next line to the end and then from the top.
     fn label_place(&self, label: &[u8]) -> Option<u32>
@@ -71,14 +87,28 @@ impl ExecState {
     pub fn go_to(&mut self, words: &[Word]) -> Result<Want, Fault>
         ensures { Does (spec.gone self.old words.now) self.old self.new result }
     {
+        self.next = self.place_of(words)?;
+        Ok(Want::Next)
+    }
+
+    /// The place to which &GOTO with these words goes.
+    #[tactic(auto, unfolding(crate::specs::Jumps::gone))]
+    fn place_of(&self, words: &[Word]) -> Result<u32, Fault>
+        ensures { MatchResult result
+            (λ place. spec.gone self.now words.now
+            ≡ Ok (record self.now { next = place }, Want.Next))
+            (λ fault. (fault ≡ Fault.Memory) ⊎ (spec.gone self.now words.now ≡ Err fault)) }
+    {
+        if let Some(label) = only_label(words) {
+            return self.place_named(label);
+        }
         let operands = expanded_words(self.alloc, &self.seen(), words)?;
         let [label, others @ ..] = operands.words.as_slice() else {
             return Err(missing(operands.is_cut));
         };
         let place = self.place_named(label.bytes())?;
         ended(others, operands.is_cut)?;
-        self.next = place;
-        Ok(Want::Next)
+        Ok(place)
     }
 
     /// &SKIP, with a number or without.

@@ -2,6 +2,7 @@
 #![tactic(auto)]
 
 mod assignment;
+mod borrowed;
 mod calling;
 mod calls;
 mod comparison;

@@ -1,7 +1,9 @@
 // Variables that are set, the arguments among them.
-ghost use Rattle.std.specs.Prelude.{◌≡◌, ◌+◌, IfOk, IsSome, is_some};
+ghost use Rattle.std.specs.Prelude.{◌≡◌, ◌+◌, ◌≤◌, length, Ok, None, IfErr, IfOk, IsSome, OnErr, OnOk};
+ghost use Rattle.std.specs.Option.{option_copied};
 ghost use Rattle.std.specs.FinMap.{empty, get, insert, len, remove};
 ghost use Rattle.std.specs.List.{list_all};
+ghost use Rattle.cms_text.specs.Limits.{longest_text};
 ghost use Rattle.cms_text.specs.Numbers.{is_digit};
 ghost use Rattle.exec2_parse.specs.Variables.{value_of};
 ghost use Rattle.exec2_run.specs.Faults.{Answers, Does, Leads};
@@ -108,13 +110,24 @@ impl Variables {
         }
     }
 
-    fn is_set(&self, name: &[u8]) -> bool
-        ensures { result ≡ is_some (get (given.table_of self.now name.now) name.now) }
+    /// The same, borrowed.
+    pub fn bytes(&self, name: &[u8]) -> &[u8]
+        ensures value { result.now ≡ value_of (given.table_of self.now name.now) name.now }
+        ensures short { length result.now ≤ longest_text }
+    {
+        match self.get(name) {
+            Some(value) => value.bytes(),
+            None => &[],
+        }
+    }
+
+    fn get(&self, name: &[u8]) -> Option<&Word>
+        ensures { option_copied result ≡ get (given.table_of self.now name.now) name.now }
     {
         if is_argument(name) {
-            self.arguments.get(name).is_some()
+            self.arguments.get(name)
         } else {
-            self.others.get(name).is_some()
+            self.others.get(name)
         }
     }
 
@@ -122,10 +135,26 @@ impl Variables {
     fn has_room(&self, name: &[u8]) -> bool
         ensures { result ≡ spec.has_room self.now name.now }
     {
-        if self.is_set(name) {
+        if self.get(name).is_some() {
             return true;
         }
         self.arguments.len().saturating_add(self.others.len()) < MOST
+    }
+
+    /// Sets a variable that is set, which takes no memory. The value of one that isn't comes back.
+    #[tactic(auto, unfolding(crate::specs::Variables::with_value))]
+    fn put(&mut self, name: &[u8], value: Word) -> Result<(), Word>
+        ensures ok { OnOk result (spec.with_value self.old name.now value ≡ Ok self.new) }
+        ensures err { OnErr result (self.new ≡ self.old) }
+        ensures back { IfErr result (λ back. back ≡ value) }
+        ensures unset { OnErr result
+            (get (given.table_of self.old name.now) name.now ≡ None) }
+    {
+        if is_argument(name) {
+            self.arguments.put(name, value)
+        } else {
+            self.others.put(name, value)
+        }
     }
 
     /// Sets a variable, and gives the value that it had.
@@ -262,6 +291,20 @@ impl ExecState {
     {
         self.set_variable(name, value)?;
         Ok(Want::Next)
+    }
+
+    /// The same of a name that isn't copied where the variable is set.
+    pub fn set_named(&mut self, name: &[u8], value: Word) -> Result<Want, Fault>
+        requires { length name.now ≤ longest_text }
+        ensures { Does (spec.set_to self.old name.now value) self.old self.new result }
+    {
+        match self.variables.put(name, value) {
+            Ok(()) => Ok(Want::Next),
+            Err(value) => {
+                let name = Word::of(self.alloc, name)?;
+                self.set_to(name, value)
+            }
+        }
     }
 
     /// Sets the arguments to these and no others.

@@ -1,5 +1,5 @@
 // The words of a statement.
-ghost use Rattle.std.specs.Prelude.{◌≡◌, drop};
+ghost use Rattle.std.specs.Prelude.{◌≡◌, ◌∷◌, [], drop, IfSome};
 
 use cms_text::Word;
 
@@ -13,5 +13,15 @@ pub fn behind_first(words: &[Word]) -> &[Word]
     match words {
         [_, others @ ..] => others,
         [] => words,
+    }
+}
+
+/// The only word.
+pub fn only(words: &[Word]) -> Option<&Word>
+    ensures { IfSome result (λ word. words.now ≡ word.now ∷ []) }
+{
+    match words {
+        [word] => Some(word),
+        _ => None,
     }
 }
