@@ -1,21 +1,19 @@
 -- Words whose values are borrowed: what they become.
-use Rattle.std.proofs.Common.{◌≡◌, ◌∙◌, ◌∷◌, [], ◌≤◌, ◌++◌, ℕ, List, length, refl, sym, ap, Bool, true, false, cond, arith}
-use Rattle.std.specs.Prelude.{◌==◌, nat_lt, is_some, Option, Some, None, Result, Ok, Err, map}
+use Rattle.std.proofs.Common.{◌≡◌, ◌∙◌, ◌∷◌, [], ◌≤◌, List, length, refl, sym, ap, true, false, cond, arith}
+use Rattle.std.specs.Prelude.{◌==◌, nat_lt, is_some, Option, Some, None, Ok, Err}
 use Rattle.std.specs.List.{list_all}
-use Rattle.std.proofs.lemmas.Bool.Decides.{nat_tests}
 use Rattle.std.proofs.lemmas.List.{append-nil}
 use Rattle.cms_ebcdic.specs.CodePage.{upper_of}
 use Rattle.cms_text.specs.Texts.{Text}
 use Rattle.exec2_parse.proofs.Folds.{plain_name, same_folded}
 use Rattle.exec2_parse.proofs.Splits.{expanded_end, expanded_start, replaces_from_the_right}
-use Rattle.exec2_parse.specs.Expansion.{Binding, ampersands, expanded, expanded_before, expanded_with, name_of}
+use Rattle.exec2_parse.specs.Expansion.{Binding, ampersands, expanded, expanded_before, name_of}
 use Rattle.exec2_parse.specs.Variables.{value_of}
 use Rattle.exec2_parse.specs.Words.{is_label}
-use Rattle.exec2_parse.specs.declared.expansion.ExpandFault.{ExpandFault}
 use Rattle.exec2_parse.specs.declared.expansion.ExpandFault.TheVariants.{TooLong}
-use Rattle.exec2_run.specs.Given.{given_of, is_given, known, known_by, table_of}
+use Rattle.exec2_run.specs.Given.{given_of, known, known_by, table_of}
 use Rattle.exec2_run.specs.Values.{operands, values}
-use Rattle.exec2_run.specs.Variables.{NamesVariable, settable, target}
+use Rattle.exec2_run.specs.Variables.{NamesVariable, target}
 use Rattle.exec2_run.specs.declared.given.AtStart.{AtStart}
 use Rattle.exec2_run.specs.declared.given.Predefined.{Predefined}
 use Rattle.exec2_run.specs.declared.given.Standing.{Standing}

@@ -4,6 +4,7 @@ mod ByCases
 mod ByLabels
 mod ByRelation
 mod Fronts
+mod GivenNames
 mod OneWord
 pub mod Places
 mod Searches

@@ -1,6 +1,6 @@
 -- The sum of two numbers with a sign between them.
-use Rattle.std.proofs.Common.{◌≡◌, ◌≢◌, ◌≤◌, ◌<◌, ◌∙◌, ◌∷◌, [], ℕ, List, length, get_or, refl, sym, ap, Bool, true, false, cond, arith, ℤ}
-use Rattle.std.specs.Prelude.{◌==◌, codes, Option, Some, None, Result, Ok, Err}
+use Rattle.std.proofs.Common.{◌≡◌, ◌≤◌, ◌<◌, ◌∷◌, [], ℕ, List, length, get_or, refl, Bool, true, false, cond, arith, ℤ}
+use Rattle.std.specs.Prelude.{◌==◌, codes, Option, Some, None, Ok}
 use Rattle.std.proofs.lemmas.Bool.Decides.{nat_tests}
 use Rattle.cms_ebcdic.specs.CodePage.{code_of, code_page}
 use Rattle.cms_text.specs.Numbers.{magnitude_of, negative_of, number_of, positive_of, written}
@@ -8,7 +8,7 @@ use Rattle.cms_text.specs.Texts.{Text, ebcdic, is_keyword}
 use Rattle.exec2_parse.proofs.Keywords.{other_length}
 use Rattle.exec2_parse.specs.Expansion.{Binding, ampersands, expanded}
 use Rattle.exec2_run.proofs.Borrows.{plain_word}
-use Rattle.exec2_run.specs.Assignments.{added, applied, function_in, plain_value, right_side, sign_of}
+use Rattle.exec2_run.specs.Assignments.{added, applied, plain_value, right_side, sign_of}
 use Rattle.exec2_run.specs.Values.{in_front, values}
 use Rattle.exec2_run.specs.declared.assignment.Sign.{Sign}
 use Rattle.exec2_run.specs.declared.assignment.Sign.TheVariants.{Plus, Minus}

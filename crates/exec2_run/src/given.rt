@@ -1,5 +1,5 @@
 // The variables that are given.
-ghost use Rattle.std.specs.Prelude.{◌≡◌, ◌≤◌, length, IfOk};
+ghost use Rattle.std.specs.Prelude.{◌≡◌, ◌==◌, ◌≤◌, filter, find, length, IfOk};
 ghost use Rattle.cms_text.specs.Texts as texts;
 ghost use Rattle.exec2_run.specs.Given as spec;
 
@@ -7,8 +7,8 @@ use crate::FileName;
 use crate::variables::Variables;
 use cms_fields::Moment;
 use cms_names::Part;
-use cms_text::{BLANK, COLON, Line, STROKE, Word, ZERO, decimal, without_one_blank};
-use exec2_parse::{Scope, is_spelled, numeral, written};
+use cms_text::{BLANK, COLON, Line, STROKE, Word, ZERO, decimal, is_keyword, without_one_blank};
+use exec2_parse::{Scope, numeral, written};
 use std::alloc::{AllocError, Global};
 
 /// A variable that is given and can't be set (VM/SP EXEC 2 Reference, predefined variables).
@@ -33,39 +33,42 @@ pub enum Predefined {
     Cmdstring,
 }
 
-const ALL: [Predefined; 17] = [
-    Predefined::Procedure,
-    Predefined::Count,
-    Predefined::Index,
-    Predefined::Rc,
-    Predefined::Retcode,
-    Predefined::Line,
-    Predefined::Linenum,
-    Predefined::Depth,
-    Predefined::From,
-    Predefined::Filename,
-    Predefined::Filetype,
-    Predefined::Filemode,
-    Predefined::Date,
-    Predefined::Time,
-    Predefined::Blank,
-    Predefined::Argstring,
-    Predefined::Cmdstring,
-];
-
 impl Predefined {
-    #[tactic(auto, unfolding(crate::specs::Given::given_of))]
+    /// The variable of a name, in capital or small letters; none exactly where it isn't given. It is looked for among the names of its length.
     fn read(name: &[u8]) -> Option<Predefined>
         ensures { result ≡ spec.given_of name.now }
     {
-        ALL.iter()
-            .copied()
-            .find(|given| is_spelled(name, given.name()))
+        first_named(Predefined::of_length(name.len()), name)
+    }
+
+    /// Those whose names have so many letters.
+    #[tactic(auto, using(crate::proofs::GivenNames::of_no_length))]
+    fn of_length(count: usize) -> &'static [Predefined]
+        ensures { result.now ≡ filter (λ g. length (spec.name_of g) == count) spec.all_given }
+    {
+        match count {
+            1 => &[Predefined::Procedure, Predefined::Count],
+            2 => &[Predefined::Rc],
+            4 => &[
+                Predefined::Line,
+                Predefined::From,
+                Predefined::Date,
+                Predefined::Time,
+            ],
+            5 => &[Predefined::Index, Predefined::Depth, Predefined::Blank],
+            7 => &[Predefined::Retcode, Predefined::Linenum],
+            8 => &[
+                Predefined::Filename,
+                Predefined::Filetype,
+                Predefined::Filemode,
+            ],
+            9 => &[Predefined::Argstring, Predefined::Cmdstring],
+            _ => &[],
+        }
     }
 
     fn name(self) -> &'static str
-        ensures name { result.now ≡ spec.name_of self }
-        ensures coded { length (texts.ebcdic result.now) ≡ length result.now }
+        ensures { result.now ≡ spec.name_of self }
     {
         match self {
             Predefined::Procedure => "0",
@@ -87,6 +90,15 @@ impl Predefined {
             Predefined::Cmdstring => "CMDSTRING",
         }
     }
+}
+
+/// The first of these with this name.
+fn first_named(all: &[Predefined], name: &[u8]) -> Option<Predefined>
+    ensures { result ≡ find (λ g. texts.is_keyword (spec.name_of g) name.now) all.now }
+{
+    all.iter()
+        .copied()
+        .find(|given| is_keyword(name, given.name()))
 }
 
 /// Whether a variable is given.

@@ -1,4 +1,4 @@
-use Rattle.std.proofs.Common.{◌≡◌, ◌∙◌, sym, rules, w64, FitsSigned}
+use Rattle.std.proofs.Common.{◌∙◌, sym, rules, w64, FitsSigned}
 use Rattle.std.proofs.lemmas.Int.{to_z-of_z}
 use Rattle.exec2_run.specs.Given.{bound}
 use Rattle.exec2_run.proofs.Sums.{sum_is}
