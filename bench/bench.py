@@ -15,7 +15,8 @@ append     a record added to a file of 64 MiB and to one of 1 MiB, with blocks o
            those that are read beside an opening, at most one of each level of the file's pointer blocks and one more
 execio     2,000 lines of one record each, `EXECIO 1 DISKW`, beside as many transactions of one row in SQLite with synchronous=FULL; and
            10,000 beside 1,000
-procedure  procedures of 1,000,000 turns, two of them beside the same loop in REXX, where Regina's `rexx` is installed
+procedure  procedures of 1,000,000 statements, two of them beside the same loop in REXX, where Regina's `rexx` is installed: at most three
+           times its time, each the fastest of three runs
 
 Blocks that are written and read are counted by strace, where it is installed. Where a count or a ratio is more than it may be at most,
 that is told on standard error, and the status is 1. The program is built first by `./cms --build`, where it isn't built. All files are made
@@ -52,6 +53,11 @@ def spent(words, script="", status=0):
     if ended.returncode != status:
         sys.exit(f"bench: {words[0]} ended with {ended.returncode}: {ended.stdout[-300:]}{ended.stderr[-300:]}")
     return seconds, int(pathlib.Path("spent").read_text()), ended.stdout
+
+
+def fastest(words, script="", status=0):
+    """The seconds and the peak memory of the fastest of three runs of a command."""
+    return min(spent(words, script, status)[:2] for _ in range(3))
 
 
 def session(unit, lines):
@@ -310,6 +316,9 @@ def execio():
     beside(seconds, rows)
 
 
+# How many times the time of REXX a procedure may take.
+MOST_BESIDE_REXX = 3
+
 # What is measured of procedures: the lines behind `&TRACE OFF`, and the program in REXX that does the like, where there is one.
 LOOPS = {
     "a sum and a jump": (
@@ -334,14 +343,15 @@ def procedure():
         texts = ["&TRACE OFF", *lines]
         made = ["FORMAT 191 A", "YES", "BENCH", f"EXECIO {len(texts)} DISKW LOOP EXEC A", *texts]
         session("191,512,n2000,loop.img", made)
-        seconds, memory, _ = spent([PROGRAM, "-t", str(turns), "191,512,ro,loop.img"], "LOOP\n", status=5)
+        seconds, memory = fastest([PROGRAM, "-t", str(turns), "191,512,ro,loop.img"], "LOOP\n", status=5)
         said(f"{what}: {turns / seconds:,.0f} statements a second", seconds, memory)
         os.unlink("loop.img")
         if rexx and shutil.which("rexx"):
             pathlib.Path("loop.rexx").write_text(rexx.format(half=turns // 2))
-            plain, memory, _ = spent(["rexx", "./loop.rexx"])
+            plain, memory = fastest(["rexx", "./loop.rexx"])
             said("the same loop in REXX", plain, memory)
             beside(seconds, plain)
+            at_most(f"{what}, times the loop in REXX", round(seconds / plain, 2), MOST_BESIDE_REXX)
 
 
 BENCHES = {"opening": opening, "files": files, "copy": copy, "append": append, "execio": execio, "procedure": procedure}
