@@ -14,7 +14,8 @@ copy       a file of F 80 records of 64 MiB, and one of 1 MiB, by COPYFILE, besi
 append     a record added to a file of 64 MiB and to one of 1 MiB, with blocks of 4,096 and of 512 bytes: the blocks that are written, and
            those that are read beside an opening, at most one of each level of the file's pointer blocks and one more
 execio     2,000 lines of one record each, `EXECIO 1 DISKW`, beside as many transactions of one row in SQLite with synchronous=FULL; and
-           10,000 beside 1,000
+           10,000 beside 1,000. And 10,000 records read by a procedure, `EXECIO 1 DISKR` for each, beside one `EXECIO * DISKR`: records of
+           80 and of 255 bytes, each behind its length and of one length, with blocks of 512 and of 4,096 bytes; the blocks that are read
 procedure  procedures of 1,000,000 statements, two of them beside the same loop in REXX, where Regina's `rexx` is installed: at most three
            times its time, each the fastest of three runs
 
@@ -295,6 +296,31 @@ def lines_written(count):
     return seconds
 
 
+READ_ONE = ["&TRACE OFF", f"&LOOP 2 {FILES}", "EXECIO 1 DISKR SRC FILE A", "&READ VARS &L"]
+READ_ALL = ["&TRACE OFF", "EXECIO * DISKR SRC FILE A", f"&LOOP 1 {FILES}", "&READ VARS &L"]
+
+# The most that records read one by one may cost beside all of them at once, in blocks that are read.
+MOST_READ = 3
+
+
+def records_read(recfm, width, size):
+    """So many records of this width, read one by one and at once."""
+    made = ["FORMAT 191 A", "YES", "BENCH", f"EXECIO {FILES} DISKW TEXT FILE A", *["X" * width] * FILES]
+    made += [f"COPYFILE TEXT FILE A SRC FILE A (RECFM {recfm}" + (f" LRECL {width}" if recfm == "F" else ""), "ERASE TEXT FILE A"]
+    for name, lines in (("ONE", READ_ONE), ("ALL", READ_ALL)):
+        made += [f"EXECIO {len(lines)} DISKW {name} EXEC A", *lines]
+    session(f"191,{size},n30000,read.img", made)
+    unit = f"191,{size},ro,read.img"
+    what = f"{FILES:,} records of {recfm} {width}, blocks of {size} bytes"
+    for told, name in (("EXECIO * DISKR", "ALL"), ("EXECIO 1 DISKR", "ONE")):
+        said(f"{what}, {told}", *session(unit, [name]))
+    once, each = counted(unit, ["ALL"]), counted(unit, ["ONE"])
+    if once and each:
+        most = at_most(f"{what}, blocks read one by one", each[1], MOST_READ * once[1])
+        print(f"  {once[1]:,} blocks read at once, {each[1]:,} one by one, {most}: {each[1] / once[1]:.2f} times as many")
+    os.unlink("read.img")
+
+
 # The most that ten times as many lines may take: ten times the time, and something for what else the machine does.
 MOST_TIMES = 12
 
@@ -302,6 +328,10 @@ MOST_TIMES = 12
 def execio():
     few, many = lines_written(1_000), lines_written(10_000)
     print(f"  10,000 lines beside 1,000: {many / few:.1f}, {at_most('10,000 lines beside 1,000', round(many / few, 1), MOST_TIMES)}")
+    for recfm in "VF":
+        for width in (RECORD, 255):
+            for size in (512, 4096):
+                records_read(recfm, width, size)
     count = 2_000
     seconds = lines_written(count)
     base = sqlite3.connect("execio.db", isolation_level=None)

@@ -130,7 +130,7 @@ machine_made : (st : State) (u n : ℕ) (unit : UnitInfo) (d : Accessed) (units 
     → machine_of (state_made st u unit n (Ok d)) units ≡ accessed u n (machine_left st u n units)
 machine_made st u n unit d units writable =
     let letter : letter_for u unit.writable n None ≡ letter_for u true n None = ap (λ (b : Bool). letter_for u b n None) writable in
-    let seat : Seated = record { letter = letter_for u unit.writable n None; disk = d } in
+    let seat : Seated = record { letter = letter_for u unit.writable n None; disk = d; reading = None } in
     let letters = letters_seated st.table.seats n seat
     ∙ ap (λ (l : Letter). slice_set (without (of_unit u) (letters_of st.table)) n (Some l)) letter
     ∙ sym (put_gone (of_unit u) (letters_of st.table) n (Some (letter_for u true n None))) in
@@ -479,17 +479,17 @@ remade_done old mid line volid unit d r = record {
       let units' = made_units st units u unit volid f.before Good in
       let x = both_touched old mid units volid u unit f Good fm.both in
       let ran = both_ran old mid units line volid u unit f Good fm.both (counted_none old.world.faults mid.world.faults r.changes.faults) (console_is old mid line volid unit (Ok d) r) in
-      let seat : Seated = record { letter = letter_for u unit.writable n None; disk = d } in
+      let seat : Seated = record { letter = letter_for u unit.writable n None; disk = d; reading = None } in
       let t = st.table in
       let within = slice_get_within t.units u unit r.unit_is in
-      let table = table_accessed t u n seat f.table.table within refl in
+      let table = table_accessed t u n seat f.table.table within refl refl in
       let letters = f.table.table.letters in
       let less = r.letter in
       let there : disk_of u (tables.seated n seat (marked u false t)).seats ≡ Some seat = disk_seated (marked u false t) n seat (omega (arith, letters, less)) table in
       let later : fm.later ≡ after f.journal x.events =
       same_Some fm.later (after f.journal x.events) (sym fm.told ∙ told_after old.world.told mid.world.told f.journal x.events f.told x.told) in
       let stands : StandsAs (after f.journal x.events) u unit (Settled (Volume (empty_on unit volid))) false (Some seat) =
-      (empty_on unit volid, refl, r.on, subst (λ (j : Journal). IsMinidisk j d (empty_on unit volid)) later fm.minidisk) in
+      (empty_on unit volid, refl, r.on, subst (λ (j : Journal). IsMinidisk j d (empty_on unit volid)) later fm.minidisk, tt) in
       let held = holds_then old.world.told mid.world.told f.journal units units' t (tables.seated n seat (marked u false t)) u n unit (Settled (Volume (empty_on unit volid))) false f.told f.table
       r.unit_is x table refl (others_made t u n seat refl) (marked_there t u unit false f.table.table r.unit_is)
       (subst (λ (y : Option Seated). StandsAs (after f.journal x.events) u unit (Settled (Volume (empty_on unit volid))) false y) (sym there) stands) in
@@ -507,7 +507,7 @@ remade_done old mid line volid unit d r = record {
       );
   later = later_made old mid line volid unit (Ok d) r;
   usable = usable_then old mid line volid unit (Ok d) r
-      (λ j usable. usable_made j old.state.table r.place line.letter unit (record { letter = letter_for r.place unit.writable line.letter None; disk = d }) refl r.unit_is
+      (λ j usable. usable_made j old.state.table r.place line.letter unit (record { letter = letter_for r.place unit.writable line.letter None; disk = d; reading = None }) refl r.unit_is
       (record { on = r.on; marked = λ locked. absurd (true≢false (sym r.writable ∙ locked)) }) usable);
 }
 

@@ -72,9 +72,10 @@ disk_so IsSo IsThen t t' n s at has so =
     let h = if_some (item_at t.seats n) (λ x. HasDisk t t' n (IsSo x)) s at has in
     rw at (record { disk = h.disk; table = h.table; does = so h.disk h.does })
 
--- where the table is as it was
-pub disk_kept : (IsThen : Seated → Accessed → Type 0) (t : Accesses) (n : ℕ) (s : Seated) → item_at t.seats n ≡ Some s → IsThen s s.disk → IfSome (item_at t.seats n) (λ x. HasDisk t t n (IsThen x))
-disk_kept IsThen t n s at so = rw at (has_same (IsThen s) t n s at so)
+-- where the table is as it was, and no reading is kept
+pub disk_kept : (IsThen : Seated → Accessed → Type 0) (t : Accesses) (n : ℕ) (s : Seated) → item_at t.seats n ≡ Some s → s.reading ≡ None → IsThen s s.disk
+    → IfSome (item_at t.seats n) (λ x. HasDisk t t n (IsThen x))
+disk_kept IsThen t n s at none so = rw at (has_same (IsThen s) t n s at none so)
 
 -- one disk after another
 pub disk_then : (IsSo : Accessed → Type 0) (Next IsThen : Seated → Accessed → Type 0) (t t1 t2 : Accesses) (n : ℕ) (s : Seated) → item_at t.seats n ≡ Some s → (h : HasDisk t t1 n IsSo)

@@ -1,5 +1,5 @@
 // Copies that are written as a file.
-ghost use Rattle.std.specs.Prelude.{◌≡◌, ◌≢◌, ◌≤◌, true, vec_capacity, IfSome, IsSome};
+ghost use Rattle.std.specs.Prelude.{◌≡◌, ◌≢◌, ◌≤◌, None, true, vec_capacity, IfSome, IsSome};
 ghost use Rattle.std.specs.Option.{ForSome};
 ghost use Rattle.cms_journal.specs.Journal.{HasBlocks};
 ghost use Rattle.cms_fields.specs.Limits.{longest_record};
@@ -58,6 +58,7 @@ fn finish<W: World>(world: &mut W, table: &mut Table, letter: u8, draft: Draft) 
     requires accessed { IsSome (item_at table.old.seats letter) }
     requires may { ForSome (item_at table.old.seats letter)
         (λ s. MayCommit (W.told world.old) s.disk draft) }
+    requires unread { ForSome (item_at table.old.seats letter) (λ s. s.reading ≡ None) }
     ensures finishes { IfSome (item_at table.old.seats letter) (λ s. FinishesSeat
         (seen W.World world.old)
         (seen W.World world.new) table.old table.new letter s draft result) }
@@ -86,6 +87,7 @@ fn fill<W: World>(
     requires accessed { IsSome (item_at table.old.seats letter) }
     requires may { ForSome (item_at table.old.seats letter)
         (λ s. MayCommit (W.told world.old) s.disk draft) }
+    requires unread { ForSome (item_at table.old.seats letter) (λ s. s.reading ≡ None) }
     requires blocks { ForSome (W.told world.old)
         (λ j. HasBlocks j.units cursor.old.unit cursor.old.total cursor.old.bsize) }
     requires short { cursor.old.begun.longest ≤ longest_record }

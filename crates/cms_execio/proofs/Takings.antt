@@ -1,12 +1,14 @@
 -- DISKR: records are taken as they are handed out, and their lines are stacked together.
 use Rattle.std.proofs.Common.{◌≡◌, ◌⊎◌, ◌+◌, ◌-◌, ◌<◌, ◌≤◌, ◌∙◌, Bool, false, ℕ, zero, suc, negsuc, List, [], ◌∷◌, ◌++◌, length, drop, take, map, min, true, Option, Some, None, Result, Ok, Err, inl, inr, pos, refl, sym, ap, subst, slice_get, arith}
-use Rattle.std.specs.Prelude.{◌==◌, ◌&&◌, IfOk, nat_lt}
+use Rattle.std.specs.Prelude.{◌==◌, ◌&&◌, IfOk, IfSome, nat_lt}
+use Rattle.std.specs.Option.{ForSome, option_and_then}
 use Rattle.std.proofs.Math.Seq.{drop-nil, take-append_seam}
 use Rattle.std.proofs.lemmas.Bool.{cases_Bool, lt-ltb, ltb-true, ltb-false, ne_eqb}
 use Rattle.std.proofs.lemmas.List.{drop-append-le, drop-take, drop_all, length-append, map-append}
 use Rattle.std.proofs.lemmas.Option.{same_Some}
 use Rattle.cms_journal.specs.Journal.{Journal, contents_of}
 use Rattle.cms_journal.specs.Told.{Told}
+use Rattle.cms_names.specs.declared.name.Name.{Name}
 use Rattle.cms_model.specs.Trees.{image_of}
 use Rattle.cms_model.specs.Changes.{Drop, file_named}
 use Rattle.cms_model.specs.LawsUpdates.{now}
@@ -28,7 +30,9 @@ use Rattle.cms_search.specs.Calls as calls
 use Rattle.cms_search.specs.Machine.{Course, Machine, Places, Went}
 use Rattle.cms_search.specs.Refusing.{device_fault, unread_code, unread_message}
 use Rattle.cms_search.specs.Releasing.{vdev_of}
+use Rattle.cms_search.specs.Searches.{item_at}
 use Rattle.cms_search.specs.Stepping.{HasRead, Stepped, handed, reading, silently, unless_failed}
+use Rattle.cms_search.specs.Tables.{Accesses, IsReadingOf, Seated, reading_on}
 use Rattle.cms_search.specs.Telling.{device_text}
 use Rattle.cms_search.specs.declared.state.Course as declared
 use Rattle.cms_search.specs.declared.state.Course.TheVariants as course
@@ -36,8 +40,9 @@ use Rattle.cms_search.specs.declared.state.End.{End}
 use Rattle.cms_search.specs.declared.state.End.TheVariants.{Memory}
 use Rattle.cms_search.specs.declared.state.State.{State}
 use Rattle.cms_search.proofs.Acts.{acts_after, acts_done, acts_same, acts_stop, comes_in, comes_none, comes_same, comes_then, cut_off, no_memory}
-use Rattle.cms_search.proofs.Handing.{AreAmong, Handed, Hands, IsOpen, Reads, handed_more, handed_none, handed_past, left_long, narrowed, only, only_read, passes_read, read_wanted, reads_none, reads_then, silent, silent_each, silent_one, unread_ends}
+use Rattle.cms_search.proofs.Handing.{AreAmong, Handed, Hands, IsOpen, Reads, handed_more, handed_none, handed_past, left_long, narrowed, only, only_read, open_same, passes_read, read_wanted, reads_none, reads_then, same_then, silent, silent_each, silent_one, unread_ends}
 use Rattle.cms_search.proofs.Meeting.{letter_is, meets_at}
+use Rattle.cms_search.proofs.Resuming.{Behind, handed_behind, kept_behind, reading_same}
 use Rattle.cms_search.proofs.Staying.{acts_stayed}
 use Rattle.cms_world.specs.Seen.{OnlyReads, Seen}
 use Rattle.cms_files.specs.Consuming.{is_consumed}
@@ -50,10 +55,11 @@ use Rattle.cms_files.specs.declared.updating.Updated.TheVariants as was
 use Rattle.cms_files.specs.declared.opening.OpenFile.{OpenFile}
 use Rattle.cms_files.proofs.OpenedFiles.{opened_device, opened_reads}
 use Rattle.cms_files.proofs.Stacked.{stacks_none}
-use Rattle.cms_execio.specs.Passing.{IsPast}
+use Rattle.cms_execio.specs.Passing.{IsPast, reading_behind}
 use Rattle.cms_execio.specs.Reading.{StacksRead, code_of_taken, erase_read, if_good, in_front, keep_place, line_of_nth, lines_found, lines_on, lines_taken, places_behind, read_done, read_ended, read_found, read_on, read_taken, stack_read, taken_of}
 use Rattle.cms_execio.specs.Records.{stacked_line}
 use Rattle.cms_execio.specs.declared.line.ReadLine.{ReadLine}
+use Rattle.cms_execio.specs.declared.passing.Start.{Start}
 
 -- ---- how far it has come
 
@@ -71,26 +77,43 @@ line_added strips front records text = elim (cases_Bool (nat_lt (length records)
       rw high (ap (map (stacked_line strips)) (drop-append-le front records (text ∷ []) low) ∙ map-append (stacked_line strips) (drop front records) (text ∷ []))
 ]
 
--- so many records were handed out, and the lines of those that are stacked are kept
+-- so many records were handed out or passed over, and units were read alone
+pub record ReadTo (before now : Seen) (first c : Reading) (n : ℕ) : Type 0 where
+  pub left : n + c.left ≡ first.left
+  pub file : SameFile first c
+  pub opened : IsOpen now.told c
+  pub read : HasRead before now
+
+pub read_start : (s : Seen) (first c : Reading) (n : ℕ) → n + c.left ≡ first.left → SameFile first c → IsOpen s.told first → ReadTo s s first c n
+read_start s first c n left file has = record { left = left; file = file; opened = open_same s.told first c file has; read = reads_none s }
+
+-- with a further one
+pub read_more : (before mid now' : Seen) (first c d : Reading) (n : ℕ) → ReadTo before mid first c n → SameFile c d → c.left ≡ d.left + 1 → HasRead mid now' → ReadTo before now' first d (n + 1)
+read_more before mid now' first c d n so same left read =
+    let so_left = so.left in
+    record {
+      left = omega (arith, so_left, left);
+      file = same_then first c d so.file same;
+      opened = subst (λ (t : Told). IsOpen t d) (sym read.told) (open_same mid.told c d same so.opened);
+      read = reads_then before mid now' so.read read;
+    }
+
+-- they were handed out, and the lines of those that are stacked are kept
 pub record TakenSoFar (line : ReadLine) (front : ℕ) (before now : Seen) (first c : Reading) (n : ℕ) (lines : List (List ℕ)) : Type 0 where
   pub handed : Handed (silent {R = Course}) before now first c
   pub long : length handed.front ≡ n
   pub lines_are : lines ≡ map (stacked_line line.style.strips) (drop front handed.front)
-  pub left : n + c.left ≡ first.left
-  pub read : HasRead before now
 
-pub taken_none : (line : ReadLine) (front : ℕ) (s : Seen) (c : Reading) (lines : List (List ℕ)) → IsOpen s.told c → lines ≡ [] → TakenSoFar line front s s c c 0 lines
+taken_none : (line : ReadLine) (front : ℕ) (s : Seen) (c : Reading) (lines : List (List ℕ)) → IsOpen s.told c → lines ≡ [] → TakenSoFar line front s s c c 0 lines
 unfolding handed_none
 taken_none line front s c lines has none = record {
   handed = handed_none silent silent_one s c silent_each has;
   long = refl;
   lines_are = none ∙ sym (ap (map (stacked_line line.style.strips)) (drop-nil front));
-  left = omega arith;
-  read = reads_none s;
 }
 
 -- none was handed out yet, and some were passed over
-pub taken_past : (line : ReadLine) (front n : ℕ) (s : Seen) (first c : Reading) (lines : List (List ℕ)) → IsOpen s.told first → IsPast n first c → n ≤ front → lines ≡ []
+taken_past : (line : ReadLine) (front n : ℕ) (s : Seen) (first c : Reading) (lines : List (List ℕ)) → IsOpen s.told first → IsPast n first c → n ≤ front → lines ≡ []
     → TakenSoFar line front s s first c n lines
 taken_past line front n s first c lines has past low none = begun past.some
   where
@@ -107,19 +130,28 @@ taken_past line front n s first c lines has past low none = begun past.some
           handed = h.0;
           long = long;
           lines_are = none ∙ sym (ap (map (stacked_line line.style.strips)) (drop_all front h.0.front (omega arith)));
-          left = left;
-          read = reads_none s;
         }
+
+-- or they were handed out by earlier commands
+taken_behind : (line : ReadLine) (front n : ℕ) (s : Seen) (first c : Reading) (lines : List (List ℕ)) → Behind s.told first c n → SameFile first c → IsOpen s.told first → n ≤ front
+    → lines ≡ [] → TakenSoFar line front s s first c n lines
+taken_behind line front n s first c lines behind same has low none =
+    let h = handed_behind s first c n behind same has in
+    let long = h.1 in
+    record {
+      handed = h.0;
+      long = long;
+      lines_are = none ∙ sym (ap (map (stacked_line line.style.strips)) (drop_all front h.0.front (omega (arith, long, low))));
+    }
 
 -- a further record was handed out
 pub taken_more : (line : ReadLine) (front : ℕ) (before mid now' : Seen) (first c d : Reading) (n : ℕ) (lines lines' : List (List ℕ)) (text : List ℕ)
-    → TakenSoFar line front before mid first c n lines → Hands mid.told c d (Ok true) → SameFile c d → c.left ≡ d.left + 1 → HasRead mid now' → text ≡ text_of d
+    → TakenSoFar line front before mid first c n lines → Hands mid.told c d (Ok true) → SameFile c d → HasRead mid now' → text ≡ text_of d
     → lines' ≡ lines ++ line_of_nth line.style.strips front n text → TakenSoFar line front before now' first d (n + 1) lines'
 unfolding handed_more
-taken_more line front before mid now' first c d n lines lines' text so hands same left read is added =
+taken_more line front before mid now' first c d n lines lines' text so hands same read is added =
     let records = so.handed.front in
     let strips = line.style.strips in
-    let so_left = so.left in
     let so_long = so.long in
     let long : length (records ++ text_of d ∷ []) ≡ n + 1 = length-append records (text_of d ∷ []) ∙ (omega arith) in
     record {
@@ -129,9 +161,48 @@ taken_more line front before mid now' first c d n lines lines' text so hands sam
       lines_are = added ∙ (ap (λ (l : List (List ℕ)). l ++ line_of_nth strips front n text) so.lines_are
           ∙ (ap (λ (k : ℕ). map (stacked_line strips) (drop front records) ++ line_of_nth strips front k text) (sym so.long)
           ∙ (ap (λ (t : List ℕ). map (stacked_line strips) (drop front records) ++ line_of_nth strips front (length records) t) is ∙ sym (line_added strips front records (text_of d)))));
-      left = omega arith;
-      read = reads_then before mid now' so.read read;
     }
+
+-- ---- where it starts
+
+-- so much is said of where the reading of a file starts, by the cursor that was kept
+pub record IsStart (t : Accesses) (n : ℕ) (name : Name) (first : Reading) (front : ℕ) (kept : Option Reading) (x : Start) : Type 0 where
+  pub there : IfSome kept (λ c. reading_on t n ≡ Some (reading_behind name front c))
+  pub sound : IfSome kept (λ c. ForSome (item_at t.seats n) (λ s. IsReadingOf s.disk (reading_behind name front c)))
+  pub goes : IfSome kept (λ c. x ≡ record { cursor = c; behind = front })
+  pub past : kept ≡ None → IsPast x.behind first x.cursor
+  pub few : x.behind ≤ front
+
+module _ (old : Spot) (n : ℕ) (name : Name) (file : OpenFile) (o : IsOpened old.state.table n name file) (has : IsOpen old.world.told file.cursor) where
+  -- so many records are behind it
+  pub start_read : (front : ℕ) (kept : Option Reading) (x : Start) → IsStart old.state.table n name file.cursor front kept x → ReadTo old.world old.world file.cursor x.cursor x.behind
+  start_read front kept x is = cases kept is.sound is.goes is.past
+    where
+      cases : (k : Option Reading) → IfSome k (λ c. ForSome (item_at old.state.table.seats n) (λ s. IsReadingOf s.disk (reading_behind name front c)))
+          → IfSome k (λ c. x ≡ record { cursor = c; behind = front }) → (k ≡ None → IsPast x.behind file.cursor x.cursor) → ReadTo old.world old.world file.cursor x.cursor x.behind
+      cases None sound goes past = let p = past refl in read_start old.world file.cursor x.cursor x.behind p.left p.file has
+      cases (Some c) sound goes past =
+          let own = sound o.seat o.there in
+          let same = reading_same o.seat.disk (reading_behind name front c) file.cursor own o.starts in
+          rw goes (read_start old.world file.cursor c front same.1 same.0 has)
+
+  -- and where the units are held it is as if they had been handed out
+  pub start_taken : (line : ReadLine) (front : ℕ) (kept : Option Reading) (x : Start) (lines : List (List ℕ)) → IsStart old.state.table n name file.cursor front kept x
+      → front ≤ file.cursor.left → lines ≡ [] → (units : List Slot) → holds old units → TakenSoFar line front old.world old.world file.cursor x.cursor x.behind lines
+  start_taken line front kept x lines is few none units h = cases kept is.there is.sound is.goes is.past
+    where
+      cases : (k : Option Reading) → IfSome k (λ c. reading_on old.state.table n ≡ Some (reading_behind name front c))
+          → IfSome k (λ c. ForSome (item_at old.state.table.seats n) (λ s. IsReadingOf s.disk (reading_behind name front c)))
+          → IfSome k (λ c. x ≡ record { cursor = c; behind = front }) → (k ≡ None → IsPast x.behind file.cursor x.cursor)
+          → TakenSoFar line front old.world old.world file.cursor x.cursor x.behind lines
+      cases None there sound goes past = taken_past line front x.behind old.world file.cursor x.cursor lines has (past refl) is.few none
+      cases (Some c) there sound goes past =
+          let own = sound o.seat o.there in
+          let same = reading_same o.seat.disk (reading_behind name front c) file.cursor own o.starts in
+          let kept_is : o.seat.reading ≡ Some (reading_behind name front c) =
+          sym (ap (λ (y : Option Seated). option_and_then (λ (z : Seated). z.reading) y) o.there) ∙ there in
+          let behind = kept_behind old n o.seat name file.cursor o.there o.opens o.starts.first.unit (reading_behind name front c) kept_is refl few units h in
+          rw goes (taken_behind line front front old.world file.cursor c lines behind same.0 has (omega arith) none)
 
 -- ---- how it ends
 
@@ -236,8 +307,8 @@ module _ (old : Spot) (words : List Token) (n : ℕ) (line : ReadLine) (file : O
       omega arith
 
   -- a further record is there
-  pub taken_left : 1 ≤ taken → (mid : Spot) (c : Reading) (k : ℕ) (lines : List (List ℕ)) → TakenSoFar line front old.world mid.world file.cursor c k lines → k < front + taken → 1 ≤ c.left
-  taken_left some mid c k lines so less =
+  pub taken_left : 1 ≤ taken → (mid : Spot) (c : Reading) (k : ℕ) → ReadTo old.world mid.world file.cursor c k → k < front + taken → 1 ≤ c.left
+  taken_left some mid c k so less =
       let low = few in
       let left = so.left in
       let count = o.count in
@@ -272,9 +343,9 @@ module _ (old : Spot) (words : List Token) (n : ℕ) (line : ReadLine) (file : O
       (λ units f j. ap (λ (s : State). refusal_tree s (M105 (device_text file.vdev)) (pos 100) units) (sym same)) does went
 
   -- there was no memory to keep a line
-  pub taken_starved : (mid new : Spot) (c : Reading) (k : ℕ) (lines : List (List ℕ)) → TakenSoFar line front old.world mid.world file.cursor c k lines
+  pub taken_starved : (mid new : Spot) (c : Reading) (k : ℕ) → ReadTo old.world mid.world file.cursor c k
       → HasRead mid.world new.world → new.state.table ≡ old.state.table → Acts {T = declared.Course} old new tree (Err Memory) (course_of new.state)
-  taken_starved mid new c k lines so read same =
+  taken_starved mid new c k so read same =
       let all = reads_then old.world mid.world new.world so.read read in
       let edges = all.edges in
       cut_off old new tree (course_of new.state) all.told all.faults (omega arith) same

@@ -4,6 +4,7 @@
 mod asking;
 mod line;
 mod options;
+mod passing;
 mod place;
 mod reading;
 mod record;

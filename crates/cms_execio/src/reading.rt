@@ -1,5 +1,5 @@
 // DISKR: records of a file are stacked.
-ghost use Rattle.std.specs.Prelude.{◌≡◌, ◌+◌, ◌-◌, ◌++◌, ◌==◌, ◌&&◌, ◌<◌, ◌≤◌, ◌^◌, IsSome, List, Ok, OnOk, false, length, nat_lt, pos, true};
+ghost use Rattle.std.specs.Prelude.{◌≡◌, ◌+◌, ◌-◌, ◌++◌, ◌==◌, ◌&&◌, ◌<◌, ◌≤◌, ◌^◌, IfOk, IsSome, List, Ok, OnOk, false, length, nat_lt, pos, true};
 ghost use Rattle.std.specs.Option.{ForSome};
 ghost use Rattle.cms_disk.specs.Disks.{place_of};
 ghost use Rattle.cms_fields.specs.Moments.{is_moment};
@@ -11,22 +11,19 @@ ghost use Rattle.cms_search.specs.Calls.{Acts, IsUsable, course_of, machine_of, 
 ghost use Rattle.cms_files.specs.Files.{file_found};
 ghost use Rattle.cms_files.specs.Opening.{IsOpened};
 ghost use Rattle.cms_files.specs.Stacking.{StacksSome};
-ghost use Rattle.cms_disk.specs.Cursors.{IsUnread, block_behind};
-ghost use Rattle.cms_names.specs.declared.name.Format.TheVariants.{F};
-ghost use Rattle.cms_execio.specs.Passing.{IsPast};
+ghost use Rattle.cms_execio.specs.Passing.{GoesOnBehind};
 ghost use Rattle.cms_execio.specs.Reading as spec;
 ghost use Rattle.cms_execio.specs.Reading.{StacksRead, lines_on, lines_read};
 
 use crate::line::ReadLine;
+use crate::passing::{keep_behind, start_at};
 use crate::place::{code_of_taken, go_on, in_front, taken_of};
 use crate::record::stacked_line;
-use cms_disk::Cursor;
 use cms_edf::Change;
 use cms_files::{
     OpenFile, Updated, is_consumed, open_file, refuse_unfound, stack_lines, update_disk,
 };
 use cms_line::{Lines, Tokens};
-use cms_names::Format;
 use cms_search::{Course, End, Places, State, refuse_unread};
 use cms_world::World;
 use std::alloc::{AllocError, Global};
@@ -146,6 +143,7 @@ fn end_read<W: World>(
         (λ units. spec.read_done line.now letter vdev span.last span.front span.taken
         (machine_of state.old units)) result
         (course_of state.new) }
+    ensures table { span.last ≡ false → state.new.table ≡ state.old.table }
     ensures kept { state.new ≡ record state.old {
       table = state.new.table;
       places = state.new.places;
@@ -180,6 +178,7 @@ fn stack_read<W: World>(
         result
         (course_of state.new) }
     ensures stack { StacksSome line.now.style.end lines.now state.old.stack state.new.stack }
+    ensures table { span.last ≡ false → state.new.table ≡ state.old.table }
     ensures kept { state.new ≡ record state.old {
       table = state.new.table;
       stack = state.new.stack;
@@ -193,26 +192,8 @@ fn stack_read<W: World>(
     end_read(alloc, world, state, letter, line, vdev, span)
 }
 
-// Passes over the records in front of those that are stacked, where all of the file have one length: none of their blocks is read, but that
-// in which the first of those begins. Says how many it passed over.
-fn pass_front(cursor: &mut Cursor, format: Format, front: u32) -> u32
-    requires unread { format ≡ F → IsUnread cursor.old }
-    requires few { front ≤ cursor.old.left }
-    ensures past { IsPast result cursor.old cursor.new }
-    ensures few { result ≤ front }
-    ensures blocks { format ≡ F → cursor.new.done
-        ≡ block_behind front cursor.old.begun.longest cursor.old.bsize (length cursor.old.leaves) }
-{
-    match format {
-        Format::F => {
-            cursor.skip(front);
-            front
-        }
-        Format::V => 0,
-    }
-}
-
-// Stacks some records of a file on the disk of a letter, once all of them were handed out.
+// Stacks some records of a file on the disk of a letter, once all of them were handed out. The reading that the disk keeps goes on, where it
+// stands there; it is kept behind them, where the file has more, and is dropped where a read fails.
 fn read_span<W: World>(
     alloc: Global,
     world: &mut W,
@@ -236,6 +217,9 @@ fn read_span<W: World>(
         (course_of state.new) }
     ensures stack { StacksRead (spot W.World world.old state.old) state.new line.now
         (λ s. lines_on s line.now letter) }
+    ensures goes_on { span.last ≡ false → line.now.style.forgets ≡ false
+        → IfOk result (GoesOnBehind state.new.table letter line.now.range.input.name
+        (span.front + span.taken)) }
     ensures kept { state.new ≡ record state.old {
       table = state.new.table;
       stack = state.new.stack;
@@ -243,16 +227,21 @@ fn read_span<W: World>(
     } }
 {
     let vdev = file.vdev;
-    let format = file.format;
-    let mut cursor = file.cursor;
-    let passed = pass_front(&mut cursor, format, span.front);
+    let name = &line.range.input.name;
+    let end = span.front + span.taken;
+    let kept = state.table.take_reading(letter, name, span.front);
+    let start = start_at(kept, file.cursor, file.format, span.front);
+    let behind = start.behind;
+    let mut cursor = start.cursor;
     let mut lines = Lines::new(alloc);
-    for nth in passed..span.front + span.taken {
+    for nth in behind..end {
         match cursor.next(world) {
             Ok(_) => keep_nth(alloc, &mut lines, line, span.front, nth, cursor.text())?,
             Err(fault) => return refuse_unread(alloc, world, vdev, fault),
         }
     }
+    let drops = span.last || line.style.forgets;
+    keep_behind(&mut state.table, letter, name, end, drops, cursor);
     stack_read(alloc, world, state, letter, line, vdev, span, &lines)
 }
 

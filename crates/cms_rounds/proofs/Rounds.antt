@@ -23,6 +23,8 @@ use Rattle.cms_search.specs.declared.state.State.{State}
 use Rattle.cms_search.proofs.Acts.{acts_talks, comes_then, comes_in, comes_same, acts_done, acts_after, acts_same, acts_stop, refused}
 use Rattle.cms_search.proofs.Talking.{Came, came_none, came_to, took, stayed}
 use Rattle.cms_search.proofs.Turns.{cut_talks, done_talks, talks_kept}
+use Rattle.cms_search.proofs.Unread.{comes_unread}
+use Rattle.cms_search.specs.Tables.{Accesses, without_readings}
 use Rattle.cms_world.specs.Seen.{Seen}
 use Rattle.cms_ext.specs.Calls.{desk_of}
 use Rattle.cms_ext.specs.Extensions.{desk}
@@ -97,6 +99,32 @@ ready_stops old new ps qs code e does kept =
     cut_talks {T = Unit {0}} {U = rounds.Round} old new (saying (typed_line (ready_line code))) (ready_behind old.state ps) e itself
     (round_with new.state qs) (ap (λ (s : State). s.table) kept)
     (talks_kept {T = Unit {0}} old new (saying (typed_line (ready_line code))) (Err e) itself (ap (λ (s : State). s.console) kept) does)
+
+-- no disk keeps a reading any more, in front of the line
+abbrev without_readings_of : Spot → Accesses → Spot
+without_readings_of old t = record { world = old.world; state = record old.state { table = t } }
+
+drops : (old : Spot) (t : Accesses) (ps : List Procedure) (code : ℤ) → t ≡ without_readings old.state.table
+    → Comes old (without_readings_of old t) (ready_on old.state ps code) (ready_on (without_readings_of old t).state ps code)
+drops old t ps code is =
+    comes_unread old (without_readings_of old t) (λ (m : Machine). readied (record { machine = m; procedures = ps }) code) refl
+    (ap (λ (x : Accesses). record old.state { table = x }) is)
+
+pub readied_dropped : (old new : Spot) (ps : List Procedure) (code : ℤ) (x : Unit {0}) (t : Accesses) → t ≡ without_readings old.state.table
+    → Does old.world new.world (saying (typed_line (ready_line code))) (Ok x) itself → new.state ≡ record old.state { table = t; places = empty }
+    → Acts old new (ready_on old.state ps code) (Ok end.Ready) (round_with new.state ps)
+readied_dropped old new ps code x t is does kept =
+    let mid = without_readings_of old t in
+    acts_after old mid new (ready_on old.state ps code) (ready_on mid.state ps code) (Ok end.Ready) (round_with new.state ps) (drops old t ps code is)
+    (readied_so mid new ps code x does kept)
+
+pub ready_dropped : (old new : Spot) (ps qs : List Procedure) (code : ℤ) (e : End) (t : Accesses) → t ≡ without_readings old.state.table
+    → Does {T = Unit {0}} old.world new.world (saying (typed_line (ready_line code))) (Err e) itself → new.state ≡ record old.state { table = t }
+    → Acts {T = rounds.Round} old new (ready_on old.state ps code) (Err e) (round_with new.state qs)
+ready_dropped old new ps qs code e t is does kept =
+    let mid = without_readings_of old t in
+    acts_after old mid new (ready_on old.state ps code) (ready_on mid.state ps code) (Err e) (round_with new.state qs) (drops old t ps code is)
+    (ready_stops mid new ps qs code e does kept)
 
 -- where the tree is done already
 pub done_here : {R T : Type 0} {os : List Object} (old : SpotWith os) (t : List Slot → Act R) (x : T) (m : Meaning T R) → ((units : List Slot) → holds old units → t units ≡ Done (m units x))

@@ -97,7 +97,7 @@ fn over<W: World>(
 
 // ---- between two statements
 
-// The ready line, which forgets the reading places.
+// The ready line, which forgets the reading places, and drops the readings that disks keep.
 fn ready<W: World>(world: &mut W, session: &mut Session, code: i32) -> Result<Round, End>
     ensures acts { Acts (spot W.World world.old session.old.state)
         (spot W.World world.new session.new.state)
@@ -107,6 +107,7 @@ fn ready<W: World>(world: &mut W, session: &mut Session, code: i32) -> Result<Ro
     ensures offset { session.new.state.offset ≡ session.old.state.offset }
     ensures left { session.new.state.left ≡ session.old.state.left }
 {
+    session.state.table.drop_readings();
     say_ready(world, code)?;
     session.state.places.after(PlaceEvent::Ready);
     Ok(Round::Ready)

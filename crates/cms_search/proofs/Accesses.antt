@@ -349,7 +349,7 @@ volumeless old w vdev n ext u fault l device memory = not_accessed old w vdev n 
 -- ---- the letter has the disk then
 
 abbrev seat_of : ℕ → UnitInfo → ℕ → Option ℕ → Accessed → Seated
-seat_of u unit n ext disk = record { letter = letter_for u unit.writable n ext; disk = disk }
+seat_of u unit n ext disk = record { letter = letter_for u unit.writable n ext; disk = disk; reading = None }
 
 -- what is held behind a step that settled the unit at the minidisk which its new disk is
 pub holds_seated : (j : Journal) (units : List Slot) (t : Accesses) (n u : ℕ) (unit : UnitInfo) (doubt : Bool) (letter : Letter) (disk : Accessed) (m : Minidisk) (o : Outcome)
@@ -357,17 +357,17 @@ pub holds_seated : (j : Journal) (units : List Slot) (t : Accesses) (n u : ℕ) 
     → HoldsTable j units t → slice_get t.units u ≡ Some unit → n < 26 → letter.unit ≡ u → IsSure j (sync_of doubt u) u line.slot → IsSureOutcome o → IsOn unit disk
     → IsMinidisk (after j (sync_of doubt u)) disk m
     → state_in line.slot ≡ Volume m
-    → HoldsTable (after j (sync_of doubt u)) (units_then units u line.slot o) (seated n (record { letter = letter; disk = disk }) (marked u false t))
+    → HoldsTable (after j (sync_of doubt u)) (units_then units u line.slot o) (seated n (record { letter = letter; disk = disk; reading = None }) (marked u false t))
 holds_seated j units t n u unit doubt letter disk m o line h has below own s is on there state =
     let units' = units_then units u line.slot o in
-    let seat : Seated = record { letter = letter; disk = disk } in
+    let seat : Seated = record { letter = letter; disk = disk; reading = None } in
     let t' = seated n seat (marked u false t) in
     let less : n < length t.seats = let long = h.table.letters in omega (arith, long, below) in
     let within = slice_get_within t.units u unit has in
-    let table = table_accessed t u n seat h.table within own in
+    let table = table_accessed t u n seat h.table within own refl in
     let disk_is : disk_of_unit u t'.seats ≡ Some seat = subst (λ (v : ℕ). disk_of_unit v t'.seats ≡ Some seat) own (disk_seated (marked u false t) n seat less table) in
     let stands : StandsAs (after j (sync_of doubt u)) u unit (Settled (state_in line.slot)) false (disk_of_unit u t'.seats) =
-    subst (λ (x : Option Seated). StandsAs (after j (sync_of doubt u)) u unit (Settled (state_in line.slot)) false x) (sym disk_is) (m, ap Settled state, on, there) in
+    subst (λ (x : Option Seated). StandsAs (after j (sync_of doubt u)) u unit (Settled (state_in line.slot)) false x) (sym disk_is) (m, ap Settled state, on, there, tt) in
     holds_touched j (sync_of doubt u) units units' (released n t) t' u unit (sync_own doubt u) table refl (units_put units u (after_access line.slot o)) has
     (λ v apart. record {
       slot = other_slot units u v (after_access line.slot o) apart;

@@ -1,6 +1,6 @@
 -- What is held after the minidisk of a disk was changed, or after the device failed in that. No command is known here.
 use Rattle.std.proofs.Common.{◌≡◌, ◌≢◌, ◌∙◌, ℕ, List, [], ◌∷◌, Bool, true, false, Option, Some, None, refl, sym, ap, subst, slice_get}
-use Rattle.std.specs.Prelude.{option_map, unwrap_or}
+use Rattle.std.specs.Prelude.{IfSome, option_map, unwrap_or}
 use Rattle.std.proofs.lemmas.Option.{same_Some, slice_get_within}
 use Rattle.cms_journal.specs.declared.event.Event.{Event}
 use Rattle.cms_journal.specs.declared.event.Attached.{Attached}
@@ -31,12 +31,13 @@ use Rattle.cms_disk.specs.declared.unit.UnitInfo.{UnitInfo}
 use Rattle.cms_disk.proofs.Leaving.{covers_looked}
 use Rattle.cms_disk.proofs.Standing.{state_stands}
 use Rattle.cms_search.specs.Calls.{Spot, Holds, at}
-use Rattle.cms_search.specs.Held.{HoldsTable, IsDoubtSlot, StandsAs, disk_of}
+use Rattle.cms_search.specs.Held.{HoldsTable, IsDoubtSlot, KeepsWhatIsLeft, StandsAs, disk_of}
 use Rattle.cms_search.specs.Searches.{item_at}
-use Rattle.cms_search.specs.Tables.{Accesses, IsTable, Seated, doubted, seat_with}
+use Rattle.cms_search.specs.Tables.{Accesses, IsReadingOf, IsTable, Seated, doubted}
+use Rattle.cms_search.specs.declared.readings.KeptReading.{KeptReading}
 use Rattle.cms_search.proofs.Frames.{holds_touched}
 use Rattle.cms_search.proofs.Meeting.{Met}
-use Rattle.cms_search.proofs.Seats.{disk_elsewhere, disk_there, is_table_with, item_here, item_within, table_with}
+use Rattle.cms_search.proofs.Seats.{disk_elsewhere, disk_there, is_table_as, is_table_with, item_here, item_within, seat_as, table_as, table_reading, table_with}
 use Rattle.cms_search.proofs.Tabling.{table_doubted, unit_within}
 
 -- ---- slots
@@ -146,41 +147,52 @@ on_same unit d e same on = record {
   disk = same.disk ∙ on.disk;
 }
 
-others_with : (t : Accesses) (n : ℕ) (s : Seated) (e : Accessed) → IsTable t → item_at t.seats n ≡ Some s → KeepsOthers t (table_with t n s e) s.letter.unit
-others_with t n s e is at v apart = (
+others_as : (t : Accesses) (n : ℕ) (s : Seated) (e : Accessed) (r : Option KeptReading) → IsTable t → IsTable (table_as t n s e r) → item_at t.seats n ≡ Some s
+    → KeepsOthers t (table_as t n s e r) s.letter.unit
+others_as t n s e r is is' at v apart = (
   refl,
-  disk_elsewhere t.seats n s (Some (seat_with s e)) v is.once (is_table_with t n s e is at).once at
-      (λ x same. ap (λ (y : Seated). y.letter.unit) (sym (same_Some (seat_with s e) x same))) apart,
+  disk_elsewhere t.seats n s (Some (seat_as s e r)) v is.once is'.once at (λ x same. ap (λ (y : Seated). y.letter.unit) (sym (same_Some (seat_as s e r) x same))) apart,
 )
 
-there_with : (t : Accesses) (n : ℕ) (s : Seated) (e : Accessed) → IsTable t → item_at t.seats n ≡ Some s → disk_of s.letter.unit (table_with t n s e).seats ≡ Some (seat_with s e)
-there_with t n s e is at =
-    disk_there (table_with t n s e).seats n (seat_with s e) (is_table_with t n s e is at).once (item_here t.seats n (Some (seat_with s e)) (item_within t.seats n s at))
+there_as : (t : Accesses) (n : ℕ) (s : Seated) (e : Accessed) (r : Option KeptReading) → IsTable (table_as t n s e r) → item_at t.seats n ≡ Some s
+    → disk_of s.letter.unit (table_as t n s e r).seats ≡ Some (seat_as s e r)
+there_as t n s e r is' at = disk_there (table_as t n s e r).seats n (seat_as s e r) is'.once (item_here t.seats n (Some (seat_as s e r)) (item_within t.seats n s at))
 
--- its unit is settled at the minidisk that the disk is then
-pub then_minidisk : (j later : Journal) (units : List Slot) (t : Accesses) (n : ℕ) (s : Seated) (e : Accessed) (met : Met j units t s) (slot : Slot) (m : Minidisk) → IsTable t
-    → item_at t.seats n ≡ Some s → IsOnSame s.disk e → slot ≡ Settled (Volume m) → IsMinidisk later e m → IsThen j later units t (table_with t n s e) s met slot
-then_minidisk j later units t n s e met slot m is at same settled there =
+others_with : (t : Accesses) (n : ℕ) (s : Seated) (e : Accessed) → IsTable t → item_at t.seats n ≡ Some s → KeepsOthers t (table_with t n s e) s.letter.unit
+others_with t n s e is at = others_as t n s e None is (is_table_with t n s e is at) at
+
+-- its unit is settled at the minidisk that the disk is then, and a reading that it keeps has left what that has
+then_as : (j later : Journal) (units : List Slot) (t : Accesses) (n : ℕ) (s : Seated) (e : Accessed) (r : Option KeptReading) (met : Met j units t s) (slot : Slot) (m : Minidisk)
+    → IsTable t → IsTable (table_as t n s e r) → item_at t.seats n ≡ Some s → IsOnSame s.disk e → slot ≡ Settled (Volume m) → IsMinidisk later e m
+    → KeepsWhatIsLeft later m (seat_as s e r) → IsThen j later units t (table_as t n s e r) s met slot
+then_as j later units t n s e r met slot m is is' at same settled there left =
     let on = on_same met.unit s.disk e same met.on in
     let unit : e.volume.unit ≡ s.letter.unit = same.unit ∙ met.own in
     record {
       doubt = false;
       marked = is.sure n s at;
       whole = subst (λ (u : ℕ). IsWhole (disk_on met.unit) (now later u)) unit (subst (λ (d : volumes.Disk). IsWhole d (now later e.volume.unit)) on.disk there.stands.whole);
-      stands = subst (λ (x : Option Seated). StandsAs later s.letter.unit met.unit slot false x) (sym (there_with t n s e is at)) (m, settled, on, there);
+      stands = subst (λ (x : Option Seated). StandsAs later s.letter.unit met.unit slot false x) (sym (there_as t n s e r is' at)) (m, settled, on, there, left);
     }
 
--- where a disk is another that is the same minidisk, nothing was done to its unit
-pub holds_with : (j : Journal) (units : List Slot) (t : Accesses) (n : ℕ) (s : Seated) (e : Accessed) (met : Met j units t s) → item_at t.seats n ≡ Some s → IsOnSame s.disk e
-    → IsMinidisk j e met.minidisk → HoldsTable j units t → HoldsTable j units (table_with t n s e)
-holds_with j units t n s e met at same there h =
+-- another disk keeps no reading
+pub then_minidisk : (j later : Journal) (units : List Slot) (t : Accesses) (n : ℕ) (s : Seated) (e : Accessed) (met : Met j units t s) (slot : Slot) (m : Minidisk) → IsTable t
+    → item_at t.seats n ≡ Some s → IsOnSame s.disk e → slot ≡ Settled (Volume m) → IsMinidisk later e m → IsThen j later units t (table_with t n s e) s met slot
+then_minidisk j later units t n s e met slot m is at same settled there =
+    then_as j later units t n s e None met slot m is (is_table_with t n s e is at) at same settled there tt
+
+-- where a disk is another that is the same minidisk, or keeps another reading, nothing was done to its unit
+holds_as : (j : Journal) (units : List Slot) (t : Accesses) (n : ℕ) (s : Seated) (e : Accessed) (r : Option KeptReading) (met : Met j units t s) → IsTable (table_as t n s e r)
+    → item_at t.seats n ≡ Some s → IsOnSame s.disk e → IsMinidisk j e met.minidisk → KeepsWhatIsLeft j met.minidisk (seat_as s e r) → HoldsTable j units t
+    → HoldsTable j units (table_as t n s e r)
+holds_as j units t n s e r met is' at same there left h =
     let u = s.letter.unit in
-    let t' = table_with t n s e in
-    let l = then_minidisk j j units t n s e met (Settled (Volume met.minidisk)) met.minidisk h.table at same refl there in
+    let t' = table_as t n s e r in
+    let l = then_as j j units t n s e r met (Settled (Volume met.minidisk)) met.minidisk h.table is' at same refl there left in
     let line = met.line in
     let slot : line.slot ≡ Settled (Volume met.minidisk) = same_Some line.slot (Settled (Volume met.minidisk)) (sym line.there ∙ met.slot) in
-    holds_touched j [] units units t t' u met.unit tt (is_table_with t n s e h.table at) refl refl met.has
-    (λ v apart. record { slot = refl; doubt = refl; disk = (others_with t n s e h.table at v apart).1 })
+    holds_touched j [] units units t t' u met.unit tt is' refl refl met.has
+    (λ v apart. record { slot = refl; doubt = refl; disk = (others_as t n s e r h.table is' at v apart).1 })
     (record {
       number = line.number;
       blocks = line.blocks;
@@ -196,6 +208,15 @@ holds_with j units t n s e met at same there h =
       has = line.has;
     })
     h
+
+pub holds_with : (j : Journal) (units : List Slot) (t : Accesses) (n : ℕ) (s : Seated) (e : Accessed) (met : Met j units t s) → item_at t.seats n ≡ Some s → IsOnSame s.disk e
+    → IsMinidisk j e met.minidisk → HoldsTable j units t → HoldsTable j units (table_with t n s e)
+holds_with j units t n s e met at same there h = holds_as j units t n s e None met (is_table_with t n s e h.table at) at same there tt h
+
+pub holds_reading : (j : Journal) (units : List Slot) (t : Accesses) (n : ℕ) (s : Seated) (r : Option KeptReading) (met : Met j units t s) → item_at t.seats n ≡ Some s
+    → IfSome r (IsReadingOf s.disk) → KeepsWhatIsLeft j met.minidisk (seat_as s s.disk r) → HoldsTable j units t → HoldsTable j units (table_reading t n s r)
+holds_reading j units t n s r met at own left h =
+    holds_as j units t n s s.disk r met (is_table_as t n s s.disk r h.table at own) at (record { vdev = refl; writable = refl; unit = refl; disk = refl }) met.is left h
 
 -- ---- the unit is in doubt
 

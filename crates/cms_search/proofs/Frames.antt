@@ -1,5 +1,6 @@
 -- A call that touches one unit leaves the lines of the others.
 use Rattle.std.proofs.Common.{◌≡◌, ◌≢◌, ◌∙◌, ℕ, List, Option, Some, None, Bool, true, false, length, slice_get, refl, sym, ap, subst, inl, inr, ⊎_elim}
+use Rattle.std.specs.Prelude.{IfSome}
 use Rattle.std.proofs.lemmas.Bool.Decides.{eqb_tells}
 use Rattle.cms_journal.specs.declared.event.Event.{Event}
 use Rattle.cms_journal.specs.Journal.{Journal, IsUntouched}
@@ -20,7 +21,7 @@ use Rattle.cms_disk.specs.Disks.{IsQuiet, disk_on}
 use Rattle.cms_disk.specs.declared.unit.UnitInfo.{UnitInfo}
 use Rattle.cms_disk.proofs.Standing.{minidisk_aside}
 use Rattle.cms_search.specs.Tables.{Accesses, IsTable, Seated}
-use Rattle.cms_search.specs.Held.{HoldsTable, HoldsUnit, SameUnit, StandsAs, disk_of}
+use Rattle.cms_search.specs.Held.{HoldsTable, HoldsUnit, IsLeftOf, SameUnit, StandsAs, disk_of}
 
 -- what a crash leaves of a unit that a piece leaves alone is what it left before
 pub left_before : (j : Journal) (piece : List Event) (u : ℕ) (x : State) → IsUntouched piece u → LeavesIn (after j piece) u x → LeavesIn j u x
@@ -43,7 +44,10 @@ stands_aside j piece u unit slot true seat number aside is = is
 stands_aside j piece u unit slot false None number aside is = (is.0, quiet_aside (disk_on unit) j piece u (aside_is_as_before j piece u aside) is.1)
 stands_aside j piece u unit slot false (Some s) number aside is =
     let at : s.disk.volume.unit ≡ u = is.2.number ∙ number in
-    (is.0, is.1, is.2, minidisk_aside j piece s.disk is.0 (subst (λ (n : ℕ). IsUntouched piece n) (sym at) aside) is.3)
+    let own = subst (λ (n : ℕ). IsUntouched piece n) (sym at) aside in
+    let before = aside_is_as_before j piece s.disk.volume.unit own in
+    let left = subst (λ (i : Image). IfSome s.reading (IsLeftOf i is.0)) (sym (ap image_of before.contents_same)) is.4 in
+    (is.0, is.1, is.2, minidisk_aside j piece s.disk is.0 own is.3, left)
 
 -- all units are as before
 pub same_unit : (units : List Slot) (t : Accesses) (u : ℕ) → SameUnit units units t t u

@@ -400,7 +400,7 @@ never_altered run old mid first c d t u wanted then' reads h hands units held =
     hands_first run old.world mid.world first c d (Err Altered) h hands r.journal r.told s.more s.left
 
 -- a count that has risen since has risen
-caused : {T : Type 0} (before mid now : ℕ) (r : Result T End) → before ≤ mid → IfErr r (λ e. e ≡ Edge → Rose mid now) → IfErr r (λ e. e ≡ Edge → Rose before now)
+pub caused : {T : Type 0} (before mid now : ℕ) (r : Result T End) → before ≤ mid → IfErr r (λ e. e ≡ Edge → Rose mid now) → IfErr r (λ e. e ≡ Edge → Rose before now)
 caused before mid now (Ok x) low h = tt
 caused before mid now (Err e) low h = λ edge. rose_from before mid now low (h edge)
 

@@ -1,6 +1,6 @@
 -- What was read and not taken is kept where an ask is cut off.
-use Rattle.std.proofs.Common.{◌≡◌, ℕ, suc, ◌+◌, ◌∙◌, Bool, true, false, ◌||◌, List, [], ◌∷◌, ◌++◌, Option, Some, None, Result, Ok, Err, OnErr, append-nil, append_assoc, arith, drop, length, length-append, refl, sym, ap, subst}
-use Rattle.std.specs.Prelude.{⊤, All}
+use Rattle.std.proofs.Common.{◌≡◌, ℕ, suc, ◌+◌, ◌∙◌, Bool, true, false, ◌||◌, List, [], ◌∷◌, ◌++◌, Option, Some, Result, Ok, Err, OnErr, append-nil, append_assoc, arith, length, length-append, refl, sym, ap}
+use Rattle.std.specs.Prelude.{All}
 use Rattle.std.proofs.lemmas.List.Elements.{All-append, All-nil, All-push}
 use Rattle.std.proofs.Math.Bool.{or-false, or_assoc}
 use Rattle.cms_journal.specs.declared.event.Event.{Event}
@@ -11,7 +11,7 @@ use Rattle.cms_machine.specs.Acts.{Act, Asks, Does, Done, Drops, Out, Take, Turn
 use Rattle.cms_machine.specs.Beats.{OnlyRead, pieces}
 use Rattle.cms_machine.specs.Items.{Goes, Item, Lazy, Unread, extended, items, listed}
 use Rattle.cms_machine.specs.Points.{Point}
-use Rattle.cms_machine.specs.Runs.{Broke, Part, Ran}
+use Rattle.cms_machine.specs.Runs.{Part}
 use Rattle.cms_machine.specs.Steps.{unit_of}
 use Rattle.cms_machine.proofs.Feed.{ended_chain, extended-append, extended-nil}
 use Rattle.cms_machine.proofs.Pieces.{disk_silent, typed_silent}
@@ -21,8 +21,7 @@ use Rattle.cms_line.specs.ConsoleState.{ConsoleState, state}
 use Rattle.cms_line.specs.Consoles.{Stayed, Took, item_of}
 use Rattle.cms_line.specs.declared.console.ConsoleLine.{ConsoleLine}
 use Rattle.cms_world.specs.Seen.{Seen}
-use Rattle.cms_search.specs.Asking.{complaint, dropping}
-use Rattle.cms_search.specs.Calls.{Plays, said}
+use Rattle.cms_search.specs.Calls.{Plays}
 use Rattle.cms_search.specs.Talks.{IsNoLine, KeepsRead, Talks, item_in, standing}
 use Rattle.cms_search.specs.declared.asking.NoLine.{NoLine}
 use Rattle.cms_search.specs.declared.asking.NoLine.TheVariants as no

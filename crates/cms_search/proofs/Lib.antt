@@ -22,6 +22,8 @@ pub mod Letters
 pub mod Staying
 pub mod Lined
 pub mod Stepped
+pub mod Resuming
+pub mod Unread
 pub mod Came
 pub mod Seating
 pub mod Sure

@@ -11,7 +11,7 @@ use Rattle.cms_machine.specs.Slots.{Slot, Settled}
 use Rattle.cms_disk.specs.Disks.{IsLookedAt, IsMinidisk, IsOn, IsReadable}
 use Rattle.cms_disk.specs.declared.unit.UnitInfo.{UnitInfo}
 use Rattle.cms_search.specs.Calls.{Spot, Usable, holds, machine_of}
-use Rattle.cms_search.specs.Held.{HoldsTable, HoldsUnit, StandsAs, disk_of}
+use Rattle.cms_search.specs.Held.{HoldsTable, HoldsUnit, KeepsWhatIsLeft, StandsAs, disk_of}
 use Rattle.cms_search.specs.Searches.{item_at}
 use Rattle.cms_search.specs.Shows.{Shows}
 use Rattle.cms_search.specs.Tables.{Accesses, Seated, letters_in}
@@ -31,6 +31,7 @@ pub record Met (j : Journal) (units : List Slot) (t : Accesses) (s : Seated) : T
   pub is : IsMinidisk j s.disk minidisk
   pub own : s.disk.volume.unit ≡ s.letter.unit
   pub looked : IsLookedAt j s.disk
+  pub reading : KeepsWhatIsLeft j minidisk s
 
 pub meets : (j : Journal) (units : List Slot) (t : Accesses) (n : ℕ) (s : Seated) → HoldsTable j units t → item_at t.seats n ≡ Some s → Met j units t s
 meets j units t n s h at =
@@ -53,6 +54,7 @@ meets j units t n s h at =
       is = stands.3;
       own = stands.2.number ∙ line.number;
       looked = λ found there. line.seen found (subst (λ (k : ℕ). slice_get j.units k ≡ Some found) stands.2.number there) ∙ sym stands.2.disk;
+      reading = stands.4;
     }
 
 -- ---- at a spot

@@ -149,7 +149,7 @@ quiet_seated j u unit slot s number is =
     (let e = is.1 in rw e tt, subst (λ (d : Disk). IsQuiet d j u) is.2.disk (subst (λ (v : ℕ). IsQuiet s.disk.volume.disk j v) number' quiet))
 
 -- a line with the disk of its unit as it is then
-held_with : (j : Journal) (units : List Slot) (t t' : Accesses) (u : ℕ) (unit : UnitInfo) (h : HoldsUnit j units t u unit) → slice_get t'.doubts u ≡ slice_get t.doubts u
+pub held_with : (j : Journal) (units : List Slot) (t t' : Accesses) (u : ℕ) (unit : UnitInfo) (h : HoldsUnit j units t u unit) → slice_get t'.doubts u ≡ slice_get t.doubts u
     → StandsAs j u unit h.slot h.doubt (disk_of u t'.seats) → HoldsUnit j units t' u unit
 held_with j units t t' u unit h doubts stands = record {
   number = h.number;

@@ -1,7 +1,7 @@
 -- The disks of units among the letters of a table.
 use Rattle.std.proofs.Common.{◌≡◌, ◌≢◌, ⊎_elim, ℕ, zero, suc, ◌<◌, List, [], ◌∷◌, get_or, length, refl, sym, ap, subst, ◌∙◌, arith}
 use Rattle.std.specs.Prelude.{Bool, true, false, cond, ◌==◌, Option, Some, None, IfSome, option_map, slice_get, slice_set}
-use Rattle.std.specs.Option.{IsSome, option_and_then}
+use Rattle.std.specs.Option.{ForSome, IsSome, option_and_then}
 use Rattle.std.proofs.lemmas.Bool.{eq-eqb, eqb-true, ne_eqb}
 use Rattle.std.proofs.lemmas.List.{length-set}
 use Rattle.std.proofs.lemmas.Option.{same_Some}
@@ -11,8 +11,16 @@ use Rattle.cms_search.specs.Held.{disk_of}
 use Rattle.cms_search.specs.Machine.{Letter}
 use Rattle.cms_search.specs.Searches.{item_at}
 use Rattle.cms_search.specs.Seats.{HasDisk}
-use Rattle.cms_search.specs.Tables.{Accesses, IsTable, Seated, StandOnce, cleared, letters_in, seat_with, with_disk}
+use Rattle.cms_search.specs.Tables.{Accesses, IsReadingOf, IsTable, KeepsItsOwn, Seated, StandOnce, cleared, letters_in, reading_on, seat_with, with_disk, with_reading}
+use Rattle.cms_search.specs.declared.readings.KeptReading.{KeptReading}
 use Rattle.cms_search.proofs.Tabling.{item_put}
+
+-- ---- options
+
+-- what is said of each of some is said of this
+pub some_maps : {A : Type 0} (x : Option A) (P Q : A → Type 0) → ((a : A) → P a → Q a) → IfSome x P → IfSome x Q
+some_maps None P Q maps h = tt
+some_maps (Some a) P Q maps h = maps a h
 
 -- ---- places in lists
 
@@ -104,42 +112,68 @@ disk_elsewhere seats n s x u once once' at own apart = disk_same seats (slice_se
         (λ (h : (a ≢ n) × (item_at seats a ≡ Some e)). (a, h.1))
         (item_put seats n x a e is)
 
--- ---- a letter's disk is another
+-- ---- a letter's disk is another, or keeps another reading
+
+-- the same marks, with this disk and reading
+abbrev pub seat_as : Seated → Accessed → Option KeptReading → Seated
+seat_as s d r = record s { disk = d; reading = r }
+
+abbrev pub table_as : Accesses → ℕ → Seated → Accessed → Option KeptReading → Accesses
+table_as t n s d r = record t { seats = slice_set t.seats n (Some (seat_as s d r)) }
 
 -- each seat then was there with the same marks
-was : (t : Accesses) (n : ℕ) (s : Seated) (d : Accessed) → item_at t.seats n ≡ Some s → (a : ℕ) (x : Seated) → item_at (slice_set t.seats n (Some (seat_with s d))) a ≡ Some x
-    → (y : Seated) × (item_at t.seats a ≡ Some y) × (x.letter ≡ y.letter)
-was t n s d at a x is = ⊎_elim
-    (λ (h : (a ≡ n) × (Some (seat_with s d) ≡ Some x)).
-    (s, subst (λ (k : ℕ). item_at t.seats k ≡ Some s) (sym h.0) at, ap (λ (y : Seated). y.letter) (sym (same_Some (seat_with s d) x h.1))))
+was : (t : Accesses) (n : ℕ) (s : Seated) (d : Accessed) (r : Option KeptReading) → item_at t.seats n ≡ Some s → (a : ℕ) (x : Seated)
+    → item_at (slice_set t.seats n (Some (seat_as s d r))) a ≡ Some x → (y : Seated) × (item_at t.seats a ≡ Some y) × (x.letter ≡ y.letter)
+was t n s d r at a x is = ⊎_elim
+    (λ (h : (a ≡ n) × (Some (seat_as s d r) ≡ Some x)).
+    (s, subst (λ (k : ℕ). item_at t.seats k ≡ Some s) (sym h.0) at, ap (λ (y : Seated). y.letter) (sym (same_Some (seat_as s d r) x h.1))))
     (λ (h : (a ≢ n) × (item_at t.seats a ≡ Some x)). (x, h.1, refl))
-    (item_put t.seats n (Some (seat_with s d)) a x is)
+    (item_put t.seats n (Some (seat_as s d r)) a x is)
 
+-- with another disk no reading is kept
 abbrev pub table_with : Accesses → ℕ → Seated → Accessed → Accesses
-table_with t n s d = record t { seats = slice_set t.seats n (Some (seat_with s d)) }
+table_with t n s d = table_as t n s d None
+
+abbrev pub table_reading : Accesses → ℕ → Seated → Option KeptReading → Accesses
+table_reading t n s r = table_as t n s s.disk r
 
 pub with_disk_is : (t : Accesses) (n : ℕ) (s : Seated) (d : Accessed) → item_at t.seats n ≡ Some s → with_disk n d t ≡ table_with t n s d
 with_disk_is t n s d at = rw at refl
 
-pub is_table_with : (t : Accesses) (n : ℕ) (s : Seated) (d : Accessed) → IsTable t → item_at t.seats n ≡ Some s → IsTable (table_with t n s d)
-is_table_with t n s d is at = record {
+pub with_reading_is : (t : Accesses) (n : ℕ) (s : Seated) (r : Option KeptReading) → item_at t.seats n ≡ Some s → with_reading n r t ≡ table_reading t n s r
+with_reading_is t n s r at = rw at refl
+
+pub is_table_as : (t : Accesses) (n : ℕ) (s : Seated) (d : Accessed) (r : Option KeptReading) → IsTable t → item_at t.seats n ≡ Some s → IfSome r (IsReadingOf d)
+    → IsTable (table_as t n s d r)
+is_table_as t n s d r is at own = record {
   distinct = is.distinct;
   doubts = is.doubts;
-  letters = length-set t.seats n (Some (seat_with s d)) ∙ is.letters;
+  letters = length-set t.seats n (Some (seat_as s d r)) ∙ is.letters;
   once = λ a b x y is_x is_y same.
-      let p = was t n s d at a x is_x in
-      let q = was t n s d at b y is_y in
+      let p = was t n s d r at a x is_x in
+      let q = was t n s d r at b y is_y in
       is.once a b p.0 q.0 p.1 q.1 (sym (ap (λ (l : Letter). l.unit) p.2) ∙ same ∙ ap (λ (l : Letter). l.unit) q.2);
   sure = λ a x is_x.
-      let p = was t n s d at a x is_x in
+      let p = was t n s d r at a x is_x in
       subst (λ (u : ℕ). slice_get t.doubts u ≡ Some false) (sym (ap (λ (l : Letter). l.unit) p.2)) (is.sure a p.0 p.1);
+  readings = λ a x is_x. ⊎_elim
+      (λ (h : (a ≡ n) × (Some (seat_as s d r) ≡ Some x)). subst (λ (y : Seated). KeepsItsOwn y) (same_Some (seat_as s d r) x h.1) own)
+      (λ (h : (a ≢ n) × (item_at t.seats a ≡ Some x)). is.readings a x h.1)
+      (item_put t.seats n (Some (seat_as s d r)) a x is_x);
 }
 
+pub is_table_with : (t : Accesses) (n : ℕ) (s : Seated) (d : Accessed) → IsTable t → item_at t.seats n ≡ Some s → IsTable (table_with t n s d)
+is_table_with t n s d is at = is_table_as t n s d None is at tt
+
 -- the letters are the same
+pub letters_as : (seats : List (Option Seated)) (n : ℕ) (s : Seated) (d : Accessed) (r : Option KeptReading) → item_at seats n ≡ Some s
+    → letters_in (slice_set seats n (Some (seat_as s d r))) ≡ letters_in seats
+letters_as [] n s d r at = refl
+letters_as (x ∷ seats) zero s d r at = ap (λ (y : Option Seated). option_map (λ (z : Seated). z.letter) y ∷ letters_in seats) (sym at)
+letters_as (x ∷ seats) (suc n) s d r at = ap (λ (l : List (Option Letter)). option_map (λ (z : Seated). z.letter) x ∷ l) (letters_as seats n s d r at)
+
 pub letters_with : (seats : List (Option Seated)) (n : ℕ) (s : Seated) (d : Accessed) → item_at seats n ≡ Some s → letters_in (slice_set seats n (Some (seat_with s d))) ≡ letters_in seats
-letters_with [] n s d at = refl
-letters_with (x ∷ seats) zero s d at = ap (λ (y : Option Seated). option_map (λ (z : Seated). z.letter) y ∷ letters_in seats) (sym at)
-letters_with (x ∷ seats) (suc n) s d at = ap (λ (l : List (Option Letter)). option_map (λ (z : Seated). z.letter) x ∷ l) (letters_with seats n s d at)
+letters_with seats n s d at = letters_as seats n s d None at
 
 pub letters_cleared : (seats : List (Option Seated)) (n : ℕ) → letters_in (cleared n seats) ≡ cleared n (letters_in seats)
 letters_cleared [] n = refl
@@ -187,16 +221,38 @@ module _ (t shown : Accesses) (n : ℕ) (x : Option Seated) (view : t ≡ shown)
   seat_changed IsSo new s has d is same put does =
       subst (λ (y : Accesses). IfSome (item_at y.seats n) (λ z. HasDisk y new n (IsSo z))) view (has_disk IsSo t new n s d (seat_at s has is same) put does)
 
+  -- or it keeps another reading, and is a table still
+  pub table_reads : (s has : Seated) (r : Option KeptReading) → IsTable t → x ≡ Some has → s ≡ has → IfSome r (IsReadingOf s.disk) → IsTable (table_reading t n s r)
+  table_reads s has r table is same own = is_table_as t n s s.disk r table (seat_at s has is same) own
+
+  pub reading_set : (new : Accesses) (s has : Seated) (r : Option KeptReading) → x ≡ Some has → s ≡ has → new ≡ table_reading t n s r → new ≡ with_reading n r shown
+  reading_set new s has r is same put = put ∙ (sym (with_reading_is t n s r (seat_at s has is same)) ∙ ap (λ (y : Accesses). with_reading n r y) view)
+
+  -- the one that it kept
+  pub reading_was : (s has : Seated) → x ≡ Some has → s ≡ has → reading_on shown n ≡ s.reading
+  reading_was s has is same =
+      ap (λ (y : Accesses). reading_on y n) (sym view) ∙ ap (λ (y : Option Seated). option_and_then (λ (z : Seated). z.reading) y) (seat_at s has is same)
+
+  -- which was of its own
+  pub reading_own : (s has : Seated) (r : KeptReading) → IsTable t → x ≡ Some has → s ≡ has → s.reading ≡ Some r → ForSome (item_at shown.seats n) (λ y. IsReadingOf y.disk r)
+  reading_own s has r table is same keeps y there =
+      let at = seat_at s has is same in
+      let here : item_at t.seats n ≡ Some y = subst (λ (z : Accesses). item_at z.seats n ≡ Some y) (sym view) there in
+      let own : IsReadingOf s.disk r = subst (λ (z : Option KeptReading). IfSome z (IsReadingOf s.disk)) keeps (table.readings n s at) in
+      subst (λ (z : Seated). IsReadingOf z.disk r) (same_Some s y (sym at ∙ here)) own
+
 -- it has the same disk where that is put in its own place
 set_same : {A : Type 0} (xs : List (Option A)) (n : ℕ) (e : A) → item_at xs n ≡ Some e → slice_set xs n (Some e) ≡ xs
 set_same [] n e is = refl
 set_same (x ∷ xs) zero e is = ap (λ (y : Option _). y ∷ xs) (sym is)
 set_same (x ∷ xs) (suc n) e is = ap (λ (l : List (Option _)). x ∷ l) (set_same xs n e is)
 
-pub has_same : (IsSo : Accessed → Type 0) (t : Accesses) (n : ℕ) (s : Seated) → item_at t.seats n ≡ Some s → IsSo s.disk → HasDisk t t n IsSo
-has_same IsSo t n s at does = record {
+-- where it keeps no reading
+pub has_same : (IsSo : Accessed → Type 0) (t : Accesses) (n : ℕ) (s : Seated) → item_at t.seats n ≡ Some s → s.reading ≡ None → IsSo s.disk → HasDisk t t n IsSo
+has_same IsSo t n s at none does = record {
   disk = s.disk;
-  table = sym (with_disk_is t n s s.disk at ∙ ap (λ (l : List (Option Seated)). record t { seats = l }) (set_same t.seats n s at));
+  table = sym (with_disk_is t n s s.disk at
+      ∙ (ap (λ (r : Option KeptReading). table_reading t n s r) (sym none) ∙ ap (λ (l : List (Option Seated)). record t { seats = l }) (set_same t.seats n s at)));
   does = does;
 }
 

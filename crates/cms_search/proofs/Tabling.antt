@@ -13,7 +13,7 @@ use Rattle.cms_disk.specs.declared.unit.UnitInfo.{UnitInfo}
 use Rattle.cms_search.specs.Formatting.{vacated}
 use Rattle.cms_search.specs.Machine.{Letter}
 use Rattle.cms_search.specs.Searches.{item_at, has}
-use Rattle.cms_search.specs.Tables.{Accesses, Seated, HaveDistinctDevices, IsTable, IsSure, without, put_on, cleared, new_table, released, marked, seated, shelves_of, table_after, told_after, letter_for, parent_of, wanted_unit}
+use Rattle.cms_search.specs.Tables.{Accesses, Seated, HaveDistinctDevices, IsTable, IsSure, KeepsItsOwn, without, put_on, cleared, new_table, released, marked, seated, shelves_of, table_after, told_after, letter_for, parent_of, wanted_unit}
 
 -- ---- lists with empty places
 
@@ -80,6 +80,7 @@ table_new units distinct = record {
   letters = length-replicate {A = Option Seated} 26 None;
   once = λ a b s t is_s is_t same. absurd (none_replicated 26 a s is_s);
   sure = λ n s is. absurd (none_replicated 26 n s is);
+  readings = λ n s is. absurd (none_replicated 26 n s is);
 }
 
 pub table_marked : (t : Accesses) (u : ℕ) → IsTable t → IsTable (marked u false t)
@@ -89,10 +90,15 @@ table_marked t u is = record {
   letters = is.letters;
   once = is.once;
   sure = λ n s at. get_set_same t.doubts u false s.letter.unit (is.sure n s at);
+  readings = is.readings;
 }
 
-pub table_seated : (t : Accesses) (n : ℕ) (s : Seated) → IsTable t → IsSure t.doubts s → IsTable (seated n s t)
-table_seated t n s is sure = record {
+-- what keeps no reading keeps none of another's file
+pub keeps_none : (s : Seated) → s.reading ≡ None → KeepsItsOwn s
+keeps_none s none = rw none tt
+
+pub table_seated : (t : Accesses) (n : ℕ) (s : Seated) → IsTable t → IsSure t.doubts s → s.reading ≡ None → IsTable (seated n s t)
+table_seated t n s is sure none = record {
   distinct = is.distinct;
   doubts = is.doubts;
   letters = length-set (without p t.seats) n (Some s) ∙ length-map t.seats _ ∙ is.letters;
@@ -100,6 +106,10 @@ table_seated t n s is sure = record {
   sure = λ a x is_x. ⊎_elim
       (λ h. subst (λ (e : Seated). IsSure t.doubts e) (same_Some s x h.1) sure)
       (λ h. is.sure a x (item_without p t.seats a x h.1).0)
+      (item_put (without p t.seats) n (Some s) a x is_x);
+  readings = λ a x is_x. ⊎_elim
+      (λ h. subst (λ (e : Seated). KeepsItsOwn e) (same_Some s x h.1) (keeps_none s none))
+      (λ h. is.readings a x (item_without p t.seats a x h.1).0)
       (item_put (without p t.seats) n (Some s) a x is_x);
 }
   where
@@ -133,6 +143,7 @@ table_released t n is = record {
   letters = length-set t.seats n None ∙ is.letters;
   once = λ a b x y is_x is_y same. is.once a b x y (stays t n a x is_x).1 (stays t n b y is_y).1 same;
   sure = λ a x is_x. is.sure a x (stays t n a x is_x).1;
+  readings = λ a x is_x. is.readings a x (stays t n a x is_x).1;
 }
 
 pub table_doubted : (t : Accesses) (n : ℕ) (s : Seated) → IsTable t → item_at t.seats n ≡ Some s → IsTable (released n (marked s.letter.unit true t))
@@ -144,6 +155,7 @@ table_doubted t n s is at = record {
   sure = λ a x is_x.
       let h = stays t n a x is_x in
       get_other t.doubts s.letter.unit x.letter.unit true (λ same. h.0 (is.once a n x s h.1 at same)) ∙ is.sure a x h.1;
+  readings = λ a x is_x. is.readings a x (stays t n a x is_x).1;
 }
 
 -- the unit of a seat is one of the table's
@@ -188,10 +200,10 @@ wanted_place vdev None missing u is = absurd (cc is)
 wanted_place vdev (Some v) (Some m) u is = absurd (cc is)
 wanted_place vdev (Some v) None u is = ap Some (sym (cc is))
 
-pub table_accessed : (t : Accesses) (u n : ℕ) (s : Seated) → IsTable t → u < length t.units → s.letter.unit ≡ u → IsTable (seated n s (marked u false t))
-table_accessed t u n s is less of_unit =
+pub table_accessed : (t : Accesses) (u n : ℕ) (s : Seated) → IsTable t → u < length t.units → s.letter.unit ≡ u → s.reading ≡ None → IsTable (seated n s (marked u false t))
+table_accessed t u n s is less of_unit none =
     let same = is.doubts in
-    table_seated (marked u false t) n s (table_marked t u is) (rw of_unit (get_same t.doubts u u false (omega (arith, less, same)) refl))
+    table_seated (marked u false t) n s (table_marked t u is) (rw of_unit (get_same t.doubts u u false (omega (arith, less, same)) refl)) none
 
 -- there are as many shelves as letters
 pub shelves_long : (t : Accesses) → IsTable t → length (shelves_of t) ≡ 26
@@ -220,11 +232,11 @@ told_is told new doubt number (Err e) ok err = err
 -- ---- a disk that is seated
 
 pub letter_so : (u n : ℕ) (ext : Option ℕ) (writable w : Bool) (parent : Option ℕ) (read_only : Bool) (d : Accessed) (s : Seated)
-    → s ≡ record { letter = record { unit = u; parent = parent; read_only = read_only }; disk = d } → parent ≡ parent_of n ext → read_only ≡ (is_some ext || not w) → w ≡ writable
-    → s ≡ record { letter = letter_for u writable n ext; disk = d }
+    → s ≡ record { letter = record { unit = u; parent = parent; read_only = read_only }; disk = d; reading = None } → parent ≡ parent_of n ext → read_only ≡ (is_some ext || not w) → w ≡ writable
+    → s ≡ record { letter = letter_for u writable n ext; disk = d; reading = None }
 letter_so u n ext writable w parent read_only d s is p r same = is ∙ (rw (p, r, same) refl)
 
-pub seated_so : (t : Accesses) (u n : ℕ) (s : Seated) (letter : Letter) (d : Accessed) (seats : List (Option Seated)) → s ≡ record { letter = letter; disk = d }
+pub seated_so : (t : Accesses) (u n : ℕ) (s : Seated) (letter : Letter) (d : Accessed) (seats : List (Option Seated)) → s ≡ record { letter = letter; disk = d; reading = None }
     → seats ≡ put_on (λ e. e.letter.unit) s n t.seats
     → ◌≡◌ {A = Accesses} (record { units = t.units; doubts = slice_set t.doubts u false; seats = seats }) (table_after t u letter n (Ok d))
 seated_so t u n s letter d seats is put = rw (put, is) refl
@@ -241,4 +253,5 @@ table_vacated t u n doubt is = record {
   sure = λ a x is_x.
       let h = item_without (λ (e : Seated). e.letter.unit == u) (cleared n t.seats) a x is_x in
       get_other t.doubts u x.letter.unit doubt (λ same. true≢false (sym (eq-eqb x.letter.unit u same) ∙ h.1)) ∙ is.sure a x (stays t n a x h.0).1;
+  readings = λ a x is_x. is.readings a x (stays t n a x (item_without (λ (e : Seated). e.letter.unit == u) (cleared n t.seats) a x is_x).0).1;
 }

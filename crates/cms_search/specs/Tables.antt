@@ -1,14 +1,16 @@
 -- The access table: the units, and the letters as which their disks are accessed.
-use Rattle.std.specs.Prelude.{◌≡◌, ℕ, Bool, true, false, not, ◌==◌, ◌||◌, if◌then◌else◌, List, length, map, position, replicate, slice_get, slice_set, Option, Some, None, is_some, IfOk, Result, Ok, Err, ⊤}
+use Rattle.std.specs.Prelude.{◌≡◌, ℕ, ◌+◌, Bool, true, false, not, ◌==◌, ◌||◌, if◌then◌else◌, List, length, map, position, replicate, slice_get, slice_set, Option, Some, None, is_some, IfOk, IfSome, Result, Ok, Err, ⊤}
 use Rattle.std.specs.Option.{ForSome, option_map, option_and_then}
 use Rattle.cms_journal.specs.Told.{Told}
 use Rattle.cms_model.specs.LawsSizes.{IsWhole}
 use Rattle.cms_model.specs.LawsUpdates.{now}
 use Rattle.cms_model.specs.declared.fault.OpenFault.TheVariants as failed
+use Rattle.cms_names.specs.declared.name.Name.{Name}
 use Rattle.cms_held.specs.Opening.{HeldFile}
 use Rattle.cms_edf.specs.OpeningSteps.{OfImage}
 use Rattle.cms_edf.specs.declared.held.FileInfo.{FileInfo}
-use Rattle.cms_disk.specs.Disks.{Accessed, AnswersAccess, IsLeft, IsOn, IsQuiet, disk_on, synced, told_with}
+use Rattle.cms_disk.specs.Cursors.{Reading, SameFile}
+use Rattle.cms_disk.specs.Disks.{Accessed, AnswersAccess, IsLeft, IsOn, IsQuiet, StartsAt, disk_on, synced, told_with}
 use Rattle.cms_disk.specs.declared.fault.AccessFault.{AccessFault}
 use Rattle.cms_disk.specs.declared.fault.AccessFault.TheVariants.{Sync, Open}
 use Rattle.cms_disk.specs.declared.unit.UnitInfo.{UnitInfo}
@@ -16,6 +18,7 @@ use Rattle.cms_search.specs.Machine.{Letter}
 use Rattle.cms_search.specs.Searches.{Listed, Shelf, Shelves, item_at}
 use Rattle.cms_search.specs.declared.fault.SearchFault.{SearchFault}
 use Rattle.cms_search.specs.declared.fault.SearchFault.TheVariants.{Memory, NoUnit, NotAccessed, ReadOnly, Volume}
+use Rattle.cms_search.specs.declared.readings.KeptReading.{KeptReading}
 
 -- ---- letters: lists with a disk or none for each letter, A first
 
@@ -53,10 +56,11 @@ wanted_unit vdev (Some u) None = Ok u
 
 -- ---- a table as it is held
 
--- an accessed disk with its letter's marks
+-- an accessed disk with its letter's marks, and the reading of one of its files that it keeps
 pub record Seated : Type 0 where
   pub letter : Letter
   pub disk : Accessed
+  pub reading : Option KeptReading
 
 -- the units, whether each is in doubt, and the disk of each letter; a disk's unit is its place among the units
 pub record Accesses : Type 0 where
@@ -92,6 +96,17 @@ StandOnce seats = (a b : ℕ) (s t : Seated) → item_at seats a ≡ Some s → 
 abbrev pub IsSure : List Bool → Seated → Type 0
 IsSure doubts s = slice_get doubts s.letter.unit ≡ Some false
 
+-- it is a reading of a file of the disk, which has handed out as many of the records as it says
+pub record IsReadingOf (d : Accessed) (r : KeptReading) : Type 0 where
+  pub first : Reading
+  pub starts : StartsAt r.name d.volume first
+  pub same : SameFile first r.cursor
+  pub left : r.count + r.cursor.left ≡ first.left
+
+-- so is each that is kept
+abbrev pub KeepsItsOwn : Seated → Type 0
+KeepsItsOwn s = IfSome s.reading (IsReadingOf s.disk)
+
 -- what every table is
 pub record IsTable (t : Accesses) : Type 0 where
   pub distinct : HaveDistinctDevices t.units
@@ -99,6 +114,7 @@ pub record IsTable (t : Accesses) : Type 0 where
   pub letters : length t.seats ≡ 26
   pub once : StandOnce t.seats
   pub sure : (n : ℕ) (s : Seated) → item_at t.seats n ≡ Some s → IsSure t.doubts s
+  pub readings : (n : ℕ) (s : Seated) → item_at t.seats n ≡ Some s → KeepsItsOwn s
 
 -- each accessed disk is on its unit
 abbrev pub AreOnUnits : Accesses → Type 0
@@ -119,13 +135,37 @@ released n t = record t { seats = cleared n t.seats }
 abbrev pub marked : ℕ → Bool → Accesses → Accesses
 marked u doubt t = record t { doubts = slice_set t.doubts u doubt }
 
--- a letter's disk is another, with the same marks
+-- a letter's disk is another, with the same marks; no reading of its files is kept
 abbrev pub seat_with : Seated → Accessed → Seated
-seat_with s d = record s { disk = d }
+seat_with s d = record s { disk = d; reading = None }
 
 -- letter n has another disk, with the same marks
 abbrev pub with_disk : ℕ → Accessed → Accesses → Accesses
 with_disk n d t = record t { seats = slice_set t.seats n (option_map (λ s. seat_with s d) (item_at t.seats n)) }
+
+-- the reading that the disk of letter n keeps
+abbrev pub reading_on : Accesses → ℕ → Option KeptReading
+reading_on t n = option_and_then (λ s. s.reading) (item_at t.seats n)
+
+-- a disk keeps this one, or none
+abbrev pub seat_reading : Option KeptReading → Seated → Seated
+seat_reading r s = record s { reading = r }
+
+-- the disk of letter n does so
+abbrev pub with_reading : ℕ → Option KeptReading → Accesses → Accesses
+with_reading n r t =
+    record t { seats = slice_set t.seats n (option_map (seat_reading r) (item_at t.seats n)) }
+
+-- no disk keeps a reading
+abbrev pub unread_seat : Seated → Seated
+unread_seat s = record s { reading = None }
+
+abbrev pub without_readings : Accesses → Accesses
+without_readings t = record t { seats = map (λ x. option_map unread_seat x) t.seats }
+
+-- a reading is of the file of a name, and stands behind so many of its records
+abbrev pub Stood : Name → ℕ → KeptReading → Type 0
+Stood name count r = (r.name ≡ name) × (r.count ≡ count)
 
 -- a letter is released, and its unit is in doubt
 abbrev pub doubted : ℕ → ℕ → Accesses → Accesses
@@ -146,7 +186,8 @@ answer_for (Err (Open why)) = Err (Volume why)
 
 -- the table afterwards: a good sync has ended the doubt, but where there was no memory
 abbrev pub table_after : Accesses → ℕ → Letter → ℕ → Result Accessed AccessFault → Accesses
-table_after t u letter n (Ok d) = seated n (record { letter = letter; disk = d }) (marked u false t)
+table_after t u letter n (Ok d) =
+    seated n (record { letter = letter; disk = d; reading = None }) (marked u false t)
 table_after t u letter n (Err Sync) = t
 table_after t u letter n (Err (Open failed.Memory)) = t
 table_after t u letter n (Err (Open why)) = marked u false t

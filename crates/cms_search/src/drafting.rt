@@ -42,7 +42,10 @@ impl Table {
             (λ s. DraftsSeat self.old self.new letter s name.now shape.now stamp.now result) }
     {
         match &mut self.seats[letter as usize] {
-            Some(seat) => seat.disk.draft(alloc, name, shape, stamp),
+            Some(seat) => {
+                seat.reading = None;
+                seat.disk.draft(alloc, name, shape, stamp)
+            }
             None => unreachable!(),
         }
     }
@@ -67,7 +70,10 @@ impl Table {
             self.old self.new letter s name.now shape.now stamp.now result) }
     {
         match &mut self.seats[letter as usize] {
-            Some(seat) => seat.disk.draft_more(alloc, world, name, shape, stamp),
+            Some(seat) => {
+                seat.reading = None;
+                seat.disk.draft_more(alloc, world, name, shape, stamp)
+            }
             None => unreachable!(),
         }
     }
@@ -88,7 +94,10 @@ impl Table {
             self.old self.new letter s draft result) }
     {
         match &mut self.seats[letter as usize] {
-            Some(seat) => commit_draft(world, &mut seat.disk, draft),
+            Some(seat) => {
+                seat.reading = None;
+                commit_draft(world, &mut seat.disk, draft)
+            }
             None => unreachable!(),
         }
     }

@@ -14,6 +14,7 @@ mod place_event;
 mod place_key;
 mod places;
 mod putting;
+mod readings;
 mod refusing;
 mod saying;
 mod search;
@@ -31,6 +32,7 @@ pub use fault::SearchFault;
 pub use place_event::PlaceEvent;
 pub use places::Places;
 pub use putting::{FileWrite, update_file};
+pub use readings::KeptReading;
 pub use refusing::{
     NO_DISK, refuse_command, refuse_line, refuse_no_device, refuse_not_accessed, refuse_read_only,
 };

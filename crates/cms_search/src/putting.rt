@@ -75,7 +75,10 @@ impl Table {
             (change_with name.now update.entry records) stamp.now result) }
     {
         match &mut self.seats[letter as usize] {
-            Some(seat) => update_minidisk(alloc, world, &mut seat.disk, name, update, stamp),
+            Some(seat) => {
+                seat.reading = None;
+                update_minidisk(alloc, world, &mut seat.disk, name, update, stamp)
+            }
             None => unreachable!(),
         }
     }

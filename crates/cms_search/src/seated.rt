@@ -4,6 +4,7 @@ ghost use Rattle.std.specs.Option.{option_copied};
 ghost use Rattle.cms_search.specs.Searches.{has, item_at, may_find};
 ghost use Rattle.cms_search.specs.Tables.{cleared, put_on, without};
 
+use crate::readings::KeptReading;
 use cms_disk::Minidisk;
 use cms_operands::ReadMode;
 use std::marker::Model;
@@ -18,6 +19,8 @@ pub struct Seated {
     pub(crate) parent: Option<u8>,
     /// it may only be read
     pub(crate) read_only: bool,
+    /// one of its files that was read in part, of which nothing was written since
+    pub(crate) reading: Option<KeptReading>,
 }
 
 impl Model for Seated {
@@ -28,6 +31,7 @@ impl Model for Seated {
     ghost view = { λ s. record {
       letter = record { unit = s.unit; parent = s.parent; read_only = s.read_only };
       disk = s.disk;
+      reading = s.reading;
     } };
 }
 

@@ -321,6 +321,7 @@ impl Table {
             unit: place,
             parent: parent_of(letter, parent),
             read_only: is_read_only(parent, writable),
+            reading: None,
         };
         put_on(&mut self.seats, letter as usize, seat);
     }
@@ -421,7 +422,10 @@ impl Table {
             self.old self.new letter s (change_of change.now) stamp.now result) }
     {
         match &mut self.seats[letter as usize] {
-            Some(seat) => change_minidisk(alloc, world, &mut seat.disk, change, stamp),
+            Some(seat) => {
+                seat.reading = None;
+                change_minidisk(alloc, world, &mut seat.disk, change, stamp)
+            }
             None => unreachable!(),
         }
     }

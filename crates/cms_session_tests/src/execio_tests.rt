@@ -436,6 +436,60 @@ BIG    191 A R/W   512      1       68      132      200
 R;
 ";
 
+// Records of two files are read in turn, and the disk is changed between.
+const TURNS: &str = "# texts
+@ P
+| &TRACE OFF
+| EXECIO 1 DISKR BETA DATA A
+| &READ VARS &X
+| &TYPE &X
+| EXECIO 1 DISKR BETA DATA A
+| &READ VARS &X
+| &TYPE &X
+| EXECIO 1 DISKR ALPHA TEXT A
+| &READ VARS &X
+| &TYPE &X
+| EXECIO 1 DISKR BETA DATA A
+| &READ VARS &X
+| &TYPE &X
+| EXECIO 1 DISKW ALPHA TEXT A (STRING AGAIN
+| EXECIO 1 DISKR BETA DATA A
+| &READ VARS &X
+| &TYPE &X
+| EXECIO 1 DISKR ALPHA TEXT A
+| &READ VARS &X
+| &TYPE &X
+| EXECIO 1 DISKR ALPHA TEXT A
+| &READ VARS &X
+| &TYPE &X
+| RENAME ALPHA TEXT A GAMMA TEXT A
+| EXECIO 1 DISKR GAMMA TEXT A
+| &READ VARS &X
+| &TYPE &X
+| EXECIO 1 DISKR GAMMA TEXT A
+| &READ VARS &X
+| &TYPE &X
+| EXECIO 2 DISKR GAMMA TEXT A (FINIS
+| &READ VARS &X
+| &TYPE &X
+| EXECIO 1 DISKR GAMMA TEXT A
+| &READ VARS &X
+| &TYPE &X
+> P
+A
+BC
+HELLO
+DEF
+GHIJ
+HELLO
+WORLD
+HELLO
+WORLD
+AGAIN
+HELLO
+R;
+";
+
 // The record of A FILE can't be read: nothing is stacked, and the next line is the script's.
 const UNREAD: &str = "# one file: 191,512,rw,A
 ^ 8
@@ -450,6 +504,7 @@ R;
 fn records_are_stacked(rt: HostRuntime) -> Result<(), Fail> {
     check_sessions(rt.alloc(), READ)?;
     check_sessions(rt.alloc(), FILLED)?;
+    check_sessions(rt.alloc(), TURNS)?;
     check_sessions(rt.alloc(), UNREAD)
 }
 

@@ -38,7 +38,7 @@ returns-in-Err-Read-clause-fills g c =
     let before = seen g.W.World c.args.world.now in
     let now = seen g.W.World c.put_copies.new.world in
     let put = c.put_copies.ensures in
-    disk_kept (λ (x : Seated) (e : Accessed). FillsTo before now x.disk e c.args.draft c.args.plan.now c.args.cursor.now Unread) _ c.args.letter s.0 s.1
+    disk_kept (λ (x : Seated) (e : Accessed). FillsTo before now x.disk e c.args.draft c.args.plan.now c.args.cursor.now Unread) _ c.args.letter s.0 s.1 (c.requires.unread s.0 s.1)
     (unread_so before now s.0.disk c.args.draft c.put_copies.new.draft c.args.plan.now c.args.cursor.now c.put_copies.result
     (c.in-Err-Read.is ∙ ap (λ (e : CopyFault). Err e) c.in-Err-Read.field-0-is) put.puts put.changes)
 
@@ -48,7 +48,7 @@ returns-in-Err-Write-clause-fills g c =
     let before = seen g.W.World c.args.world.now in
     let now = seen g.W.World c.put_copies.new.world in
     let put = c.put_copies.ensures in
-    disk_kept (λ (x : Seated) (e : Accessed). FillsTo before now x.disk e c.args.draft c.args.plan.now c.args.cursor.now (Came (Err Device))) _ c.args.letter s.0 s.1
+    disk_kept (λ (x : Seated) (e : Accessed). FillsTo before now x.disk e c.args.draft c.args.plan.now c.args.cursor.now (Came (Err Device))) _ c.args.letter s.0 s.1 (c.requires.unread s.0 s.1)
     (unwritten_so before now s.0.disk c.args.draft c.put_copies.new.draft c.args.plan.now c.args.cursor.now c.put_copies.result
     (c.in-Err-Write.is ∙ ap (λ (e : CopyFault). Err e) c.in-Err-Write.field-0-is) put.puts put.changes)
 
@@ -58,7 +58,7 @@ returns-clause-fills g c =
     let before = seen g.W.World c.args.world.now in
     let now = seen g.W.World c.put_copies.new.world in
     let put = c.put_copies.ensures in
-    disk_kept (λ (x : Seated) (e : Accessed). FillsTo before now x.disk e c.args.draft c.args.plan.now c.args.cursor.now Altered) _ c.args.letter s.0 s.1
+    disk_kept (λ (x : Seated) (e : Accessed). FillsTo before now x.disk e c.args.draft c.args.plan.now c.args.cursor.now Altered) _ c.args.letter s.0 s.1 (c.requires.unread s.0 s.1)
     (altered_so before now s.0.disk c.args.draft c.put_copies.new.draft c.args.plan.now c.args.cursor.now c.put_copies.result
     (c.in-Err-Altered.is ∙ ap (λ (e : CopyFault). Err e) c.in-Err-Altered.field-0-is) put.puts put.changes)
 

@@ -20,12 +20,12 @@ pub returns-then-records_left-ne0-clause-finishes : goal.returns-then-records_le
 returns-then-records_left-ne0-clause-finishes g c =
     let s = some_seat _ c.requires.accessed in
     let w = seen g.W.World c.args.world.now in
-    disk_kept (λ (x : Seated) (e : Accessed). FinishesTo w w x.disk e c.args.draft Altered) _ c.args.letter s.0 s.1
+    disk_kept (λ (x : Seated) (e : Accessed). FinishesTo w w x.disk e c.args.draft Altered) _ c.args.letter s.0 s.1 (c.requires.unread s.0 s.1)
     (unfinished w s.0.disk c.args.draft (λ start m change stamp all goes. c.if-records_left-ne0.true (none_left c.args.draft.writer goes.front all c.records_left.result goes.drafts c.records_left.ensures)))
 
 pub returns-then-bytes_left-ne0-clause-finishes : goal.returns-then-bytes_left-ne0-clause-finishes
 returns-then-bytes_left-ne0-clause-finishes g c =
     let s = some_seat _ c.requires.accessed in
     let w = seen g.W.World c.args.world.now in
-    disk_kept (λ (x : Seated) (e : Accessed). FinishesTo w w x.disk e c.args.draft Altered) _ c.args.letter s.0 s.1
+    disk_kept (λ (x : Seated) (e : Accessed). FinishesTo w w x.disk e c.args.draft Altered) _ c.args.letter s.0 s.1 (c.requires.unread s.0 s.1)
     (unfinished w s.0.disk c.args.draft (λ start m change stamp all goes. c.if-bytes_left-ne0.true (no_bytes c.args.draft.writer goes.front all c.bytes_left.result goes.drafts c.bytes_left.ensures)))

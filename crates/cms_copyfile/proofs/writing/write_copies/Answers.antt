@@ -1,4 +1,5 @@
-use Rattle.std.proofs.Common.{Err, inl, refl}
+use Rattle.std.proofs.Common.{◌≡◌, ◌∙◌, Err, ap, inl, refl, sym}
+use Rattle.std.proofs.lemmas.Option.{same_Some}
 use Rattle.cms_world.specs.Seen.{seen}
 use Rattle.cms_disk.specs.Disks.{Accessed}
 use Rattle.cms_search.specs.Tables.{Seated, seat_with}
@@ -17,6 +18,15 @@ fill-requires-clause-accessed g c =
 
 pub fill-requires-clause-may : goal.fill-requires-clause-may
 fill-requires-clause-may g c = draft_may _ _ _ _ c.args.to.now c.plan_target.result c.in-Ok.draft c.in-Ok.is c.requires.accessed c.plan_target.ensures c.requires.may
+
+-- the draft's plan has dropped the reading that was kept
+pub fill-requires-clause-unread : goal.fill-requires-clause-unread
+fill-requires-clause-unread g c = λ x at.
+    let n = c.args.to.now.letter in
+    let s = some_seat _ c.requires.accessed in
+    let h = if_some _ _ s.0 s.1 c.plan_target.ensures in
+    let one : seat_with s.0 h.disk ≡ x = same_Some (seat_with s.0 h.disk) x (sym (seat_there c.args.table.now c.plan_target.new.table n s.0 s.1 h) ∙ at) in
+    sym (ap (λ (y : Seated). y.reading) one)
 
 pub returns-in-Ok-clause-writes : goal.returns-in-Ok-clause-writes
 returns-in-Ok-clause-writes g c =

@@ -1,4 +1,4 @@
-use Rattle.std.proofs.Common.{◌∙◌, false, refl, sym}
+use Rattle.std.proofs.Common.{◌∙◌, false, refl, sym, true≢false}
 use Rattle.std.proofs.lemmas.Result.{err_from_is_err_and}
 use Rattle.cms_search.specs.Calls.{machine_of, spot}
 use Rattle.cms_search.proofs.Meeting.{holds_shows}
@@ -43,3 +43,7 @@ returns-clause-acts g c =
       | else-span-via-else-span w ↦ (λ units h. let last = w.if-span.false in rw last refl)
     ] in
     read_kept old c.args.line.now c.args.letter c.args.vdev span.last span.front span.taken c.go_on.new.places c.course_behind.result stays c.in_ok-go_on.ensures.ok c.course_behind.ensures
+
+-- where the file's last record isn't among them the disk stays
+pub returns-then-is_consumed-clause-table : goal.returns-then-is_consumed-clause-table
+returns-then-is_consumed-clause-table g c = λ last. absurd (true≢false (sym c.if-span.true ∙ last))

@@ -1,4 +1,4 @@
-use Rattle.std.proofs.Common.{ℕ, List, ap, subst, sym, rules}
+use Rattle.std.proofs.Common.{◌∙◌, ℕ, List, ap, subst, sym, rules}
 use Rattle.std.proofs.lemmas.Result.{err_from_is_err_and}
 use Rattle.cms_search.specs.Calls.{spot}
 use Rattle.cms_search.specs.declared.state.State.{State}
@@ -40,3 +40,13 @@ pub returns-clause-stack : goal.returns-clause-stack
 returns-clause-stack g c =
     subst (λ (l : List (List ℕ)). StacksSome c.args.line.now.style.end c.args.lines.now c.args.state.now.stack l)
     (sym (ap (λ (s : State). s.stack) c.end_read.ensures.kept)) c.stack_lines.ensures.stack
+
+-- and so does the disk, where the file's last record isn't among them
+pub returns-clause-table : goal.returns-clause-table
+returns-clause-table g c = λ last. c.end_read.ensures.table last ∙ ap (λ (s : State). s.table) c.stack_lines.ensures.kept
+
+pub returns-in_err-course-clause-table : goal.returns-in_err-course-clause-table
+returns-in_err-course-clause-table g c = λ last. ap (λ (s : State). s.table) c.stack_lines.ensures.kept
+
+pub returns-then-not-went_well-clause-table : goal.returns-then-not-went_well-clause-table
+returns-then-not-went_well-clause-table g c = λ last. ap (λ (s : State). s.table) c.stack_lines.ensures.kept

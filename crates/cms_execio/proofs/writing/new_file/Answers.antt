@@ -1,10 +1,9 @@
-use Rattle.std.proofs.Common.{◌≡◌, ◌≤◌, length, sym, subst, arith}
+use Rattle.std.proofs.Common.{◌≤◌, length, subst, arith}
 use Rattle.std.proofs.lemmas.List.{length-map}
 use Rattle.std.specs.Prelude.{IfSome, Option}
 use Rattle.cms_names.specs.declared.name.Format.TheVariants.{V}
 use Rattle.cms_model.specs.declared.file.FileData.{FileData}
 use Rattle.cms_files.specs.Gathering.{AreData, IsGathered}
-use Rattle.cms_files.specs.declared.gathering.Gathered.{Gathered}
 use Rattle.cms_files.proofs.Records.{are_file}
 use Rattle.cms_execio.specs.Records.{record_of, records_of}
 use Rattle.cms_execio.proofs.writing.new_file.Goals as goal

@@ -1,7 +1,7 @@
 use Rattle.std.proofs.Common.{◌≡◌, ◌∙◌, inl, inr, refl, ap, sym, arith}
 use Rattle.cms_records.specs.Pieces.{Begun}
 use Rattle.cms_names.specs.declared.name.Format.TheVariants.{F, V}
-use Rattle.cms_execio.proofs.reading.pass_front.Goals as goal
+use Rattle.cms_execio.proofs.passing.pass_front.Goals as goal
 
 pub skip-requires-clause-unread : goal.skip-requires-clause-unread
 skip-requires-clause-unread c = c.requires.unread c.in-F.is
