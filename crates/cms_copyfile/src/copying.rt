@@ -63,8 +63,12 @@ fn put_nth<W: World>(
     if place < plan.skipped {
         return Ok(());
     }
-    copy_record(buffer, &plan.style, text);
-    match put_copy(world, draft, buffer) {
+    let kept = plan.style.keeps(text);
+    if !kept {
+        copy_record(buffer, &plan.style, text);
+    }
+    let copy = if kept { text } else { buffer.as_slice() };
+    match put_copy(world, draft, copy) {
         Ok(()) => Ok(()),
         Err(fault) => match fault {
             DiskFault::Altered => Err(CopyFault::Altered),

@@ -1,5 +1,5 @@
 // Records as they are copied.
-ghost use Rattle.std.specs.Prelude.{◌≡◌, ◌≤◌, length, map, take, vec_capacity};
+ghost use Rattle.std.specs.Prelude.{◌≡◌, ◌≤◌, ℕ, List, Some, true, length, map, take, vec_capacity};
 ghost use Rattle.cms_copyfile.specs.Records as spec;
 
 use cms_ebcdic::{fold_lower, fold_upper};
@@ -34,13 +34,44 @@ pub struct RecordStyle {
     pub fit: Fit,
 }
 
-fn folded_byte(fold: Option<Fold>, byte: u8) -> u8
-    ensures { result ≡ spec.folded_byte fold byte }
+impl Fit {
+    // Whether a record of so many bytes is neither cut nor filled.
+    fn keeps(self, size: usize) -> bool
+        ensures { result ≡ true → (fill : ℕ) (text : List ℕ) → length text ≡ size
+            → spec.fitted_to self fill text ≡ text }
+    {
+        match self {
+            Fit::Exactly(exact) => size == exact as usize,
+            Fit::AtMost(most) => size <= most as usize,
+            Fit::Whole => true,
+        }
+    }
+}
+
+impl RecordStyle {
+    /// Whether a record is its own copy.
+    pub fn keeps(&self, text: &[u8]) -> bool
+        ensures { result ≡ true → spec.copied self.now text.now ≡ text.now }
+    {
+        self.fold.is_none() && !self.truncates && self.fit.keeps(text.len())
+    }
+}
+
+fn folded_byte(fold: Fold, byte: u8) -> u8
+    ensures { result ≡ spec.folded_byte (Some fold) byte }
 {
     match fold {
-        None => byte,
-        Some(Fold::Upper) => fold_upper(byte),
-        Some(Fold::Lower) => fold_lower(byte),
+        Fold::Upper => fold_upper(byte),
+        Fold::Lower => fold_lower(byte),
+    }
+}
+
+// Folds the letters of a text where it stands.
+fn fold_letters(text: &mut [u8], fold: Fold)
+    ensures { text.new ≡ spec.folded (Some fold) text.old }
+{
+    for byte in text.iter_mut() {
+        *byte = folded_byte(fold, *byte);
     }
 }
 
@@ -51,8 +82,9 @@ fn take_folded(into: &mut Vec<u8>, fold: Option<Fold>, text: &[u8])
     ensures capacity { vec_capacity into.old ≤ vec_capacity into.new }
 {
     into.clear();
-    for byte in text {
-        into.push(folded_byte(fold, *byte)).unwrap();
+    into.extend_from_slice(text).unwrap();
+    if let Some(fold) = fold {
+        fold_letters(into, fold);
     }
 }
 
