@@ -172,8 +172,14 @@ there_is : (image : Image) (d : Accessed) (m : Minidisk) (name : Name) (x : Opti
 there_is image d m name None s is some = absurd (some refl)
 there_is image d m name (Some k) s is some = named_at name m.files k (subst (IsFound name m.files) is ((stands_tells image d m s).found name))
 
-pub some_place : (k : ℕ) (x : Option ℕ) → Some k ≡ x → x ≡ None → ⊥
-some_place k x is none = let e : Some k ≡ None = is ∙ none in absurd (cc e)
+-- a read that failed on its device was one of a file that is there
+abbrev fault_of : Result FileData DiskFault → DiskFault
+fault_of (Ok file) = failed.Device
+fault_of (Err fault) = fault
+
+pub not_missing : (r : Result FileData DiskFault) (fault : DiskFault) → r ≡ Err fault → (fault ≡ failed.Device) ⊎ (fault ≡ failed.Altered) → r ≡ Err failed.NotFound → ⊥
+not_missing r fault is (inl device) none = let e : failed.Device ≡ failed.NotFound = sym device ∙ (sym (ap fault_of is) ∙ ap fault_of none) in absurd (cc e)
+not_missing r fault is (inr altered) none = let e : failed.Altered ≡ failed.NotFound = sym altered ∙ (sym (ap fault_of is) ∙ ap fault_of none) in absurd (cc e)
 
 -- the data are those of a file that a minidisk has under a name
 data_is : (name : Name) (files : List File) (x : File) (stored : FileData) → file_named name files ≡ Some x → IsDataOf x stored → x ≡ file_with name stored (records_in stored)
@@ -344,14 +350,6 @@ module _ (old new : Spot) (words : List Token) (place : ℕ) (name : Name) (n : 
   told_so : (units : List Slot) → holds old units → IsTold (there units) (info_named old.state.table n name)
   told_so units h = file_told old.state.table (machine_of old.state units) n name (holds_shows old units h)
 
-  absent_so : info_named old.state.table n name ≡ None → (units : List Slot) → holds old units → there units ≡ Err why.NotFound
-  absent_so none units h = ⊎_elim
-      (λ (missing : there units ≡ Err why.NotFound). missing)
-      (λ (found : (x : UnitFile) × (there units ≡ Ok x)).
-      let told : IsTold (there units) None = subst (λ (i : Option FileInfo). IsTold (there units) i) none (told_so units h) in
-      absurd (subst (λ (y : Result UnitFile SearchFault). IsTold y None) found.1 told))
-      (on_letter (machine_of old.state units) name (letter_at (machine_of old.state units) n))
-
   present_so : (info : FileInfo) → info_named old.state.table n name ≡ Some info → (units : List Slot) → holds old units
       → (x : UnitFile) × (there units ≡ Ok x) × (info.length ≡ x.file.length)
   present_so info some units h = ⊎_elim
@@ -363,14 +361,6 @@ module _ (old new : Spot) (words : List Token) (place : ℕ) (name : Name) (n : 
       let is : IsTold (Ok found.0) (Some info) = subst (λ (y : Result UnitFile SearchFault). IsTold y (Some info)) found.1 told in
       (found.0, found.1, is.size))
       (on_letter (machine_of old.state units) name (letter_at (machine_of old.state units) n))
-
-  -- it isn't there
-  pub unfound_on : (r : Result declared.Course End) (x : Result came.Fetched End) → info_named old.state.table n name ≡ None
-      → RefusesSearch old.world new.world words place why.NotFound r → new.state ≡ old.state → x ≡ with_refused r → Acts old new fetches x (fetched_of new.state name)
-  unfound_on r x none refuses' same so =
-      search_off old new name fetches words place why.NotFound r x
-      (λ other units h. ap (on_search (machine_of old.state units) words place (read_fitting (machine_of old.state units) narrow full n)) (absent_so none units h))
-      refuses' same so
 
   -- what its length and the reader's room decide
   abbrev fitting : Bool → Bool → UnitFile → List Slot → Act Fetched

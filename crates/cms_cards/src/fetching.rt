@@ -2,16 +2,17 @@
 ghost use Rattle.std.specs.Prelude.{◌≡◌, ◌&&◌, IfOk, false, nat_lt};
 ghost use Rattle.cms_search.specs.Calls.{Acts, IsUsable, machine_of, spot};
 ghost use Rattle.cms_files.specs.Files.{file_on};
+ghost use Rattle.cms_files.specs.Told.{IsFoundTold};
 ghost use Rattle.cms_search.specs.Machine.{letter_at};
 ghost use Rattle.cms_cards.specs.Calls.{IsTaken, fetched_of, with_refused};
 ghost use Rattle.cms_cards.specs.Fetching as spec;
 
 use cms_decks::CARD;
 use cms_disk::{DiskFault, FileData, FileInfo};
-use cms_files::{FileInput, info_named, refuse_unfound};
+use cms_files::{FileInput, info_found, refuse_unfound};
 use cms_line::{Message, Tokens};
 use cms_names::Name;
-use cms_search::{Course, End, SearchFault, State, refuse, refuse_limit, refuse_unread};
+use cms_search::{Course, End, Found, State, refuse, refuse_limit, refuse_unread};
 use cms_world::World;
 use std::alloc::Global;
 
@@ -77,9 +78,6 @@ fn read_whole<W: World>(
     let Some(disk) = state.table.disk(letter) else {
         return Err(End::Memory);
     };
-    let Some(_) = disk.find(name) else {
-        return Err(End::Memory);
-    };
     match disk.get(alloc, world, name) {
         Ok(file) => Ok(Fetched::File(letter, file)),
         Err(fault) => match fault {
@@ -92,7 +90,7 @@ fn read_whole<W: World>(
     }
 }
 
-// The file of a name on the disk of a letter.
+// The file of a name that a search found.
 fn fetch_on<W: World>(
     alloc: Global,
     world: &mut W,
@@ -101,25 +99,24 @@ fn fetch_on<W: World>(
     place: u8,
     bounds: Bounds,
     name: &Name,
-    letter: u8,
+    found: Found,
 ) -> Result<Fetched, End>
     requires usable { IsUsable (spot W.World world.old state.now) }
+    requires found { IsFoundTold state.now.table found name.now }
     ensures acts { Acts (spot W.World world.old state.now) (spot W.World world.new state.now)
         (λ units. spec.fetch_on
-        (machine_of state.now units) words.now place bounds.narrow bounds.full name.now letter)
+        (machine_of state.now units) words.now place bounds.narrow bounds.full name.now found.letter)
         result (fetched_of state.now name.now) }
     ensures taken { IfOk result (IsTaken bounds.full) }
 {
-    let Some(info) = info_named(&state.table, letter, name) else {
-        return refused(refuse_unfound(alloc, world, words, place, SearchFault::NotFound));
-    };
+    let info = info_found(&state.table, found).unwrap();
     if bounds.exceeds(&info) {
         return refused(refuse(alloc, world, Message::M123, NOT_TAKEN));
     }
     if bounds.full {
         return refused(refuse_limit(alloc, world, DECK_LIMIT));
     }
-    read_whole(alloc, world, state, letter, name)
+    read_whole(alloc, world, state, found.letter, name)
 }
 
 /// The file that a command reads, whose words stand from a place on. It is refused, in this order, where no disk has the letter, where
@@ -150,7 +147,7 @@ pub(crate) fn fetch<W: World>(
                 place,
                 bounds,
                 &input.name,
-                found.letter,
+                found,
             )
         }
         Err(fault) => refused(refuse_unfound(alloc, world, words, place, fault)),

@@ -61,6 +61,8 @@ fn put_copied<W: World>(
     requires moment { is_moment state.old.moment ≡ true }
     requires writing { writing (item_at (letters_of state.old.table) file.now.letter)
         file.now.letter ≡ Ok tt }
+    requires told { Some file.now.input
+        ≡ named.info_named state.old.table file.now.found.letter file.now.found.name }
     requires fits { ForSome (item_at state.old.table.seats file.now.letter)
         (λ s. FitsVolume write s.disk.volume file.now.name shape.now) }
     requires size { (most : ℕ) → most ≤ longest_record

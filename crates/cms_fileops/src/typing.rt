@@ -1,21 +1,25 @@
 // TYPE.
-ghost use Rattle.std.specs.Prelude.{◌≡◌, ◌≤◌, ◌-◌, drop, take, true, List, IfOk};
+ghost use Rattle.std.specs.Prelude.{◌≡◌, ◌≤◌, ◌-◌, drop, take, true, List, Some, IfOk};
 ghost use Rattle.cms_fields.specs.Moments.{is_moment};
 ghost use Rattle.cms_line.specs.declared.token.Token.{Token};
 ghost use Rattle.cms_operands.specs.Choices.{AnswersLine};
 ghost use Rattle.cms_search.specs.Calls.{Acts, Does, IsUsable, course_of, itself, machine_of, spot};
 ghost use Rattle.cms_world.specs.Seen.{seen};
 ghost use Rattle.cms_files.specs.Opening.{IsOpened};
+ghost use Rattle.cms_files.specs.Told.{IsFoundTold, info_named};
 ghost use Rattle.cms_fileops.specs.Typing as spec;
 
-use cms_files::{FileInput, OpenFile, consume_last, file_input, open_file, refuse_unfound};
+use cms_disk::FileInfo;
+use cms_files::{
+    FileInput, OpenFile, consume_told, file_input, info_found, open_told, refuse_unfound,
+};
 use cms_line::{Token, Tokens};
 use cms_operands::{
     ChosenOption, CommandFault, LARGEST, OptionForm, Parameter, Refusal, Setting, chosen_options,
     ended, given_number_or_all, number_or, operands,
 };
 use cms_search::{
-    Course, End, State, hexadecimal_digit, refuse_command, refuse_line, refuse_unread, say,
+    Course, End, Found, State, hexadecimal_digit, refuse_command, refuse_line, refuse_unread, say,
 };
 use cms_world::World;
 use std::alloc::{AllocError, Global};
@@ -197,18 +201,21 @@ fn type_nth<W: World>(
     }
 }
 
-// Types the records of a file on the disk of a letter, each as it is handed out; the first that is typed is there. Where the last is the
-// file's, that may erase it.
+// Types the records of a file on the disk of a letter, of which this is told, each as it is handed out; the first that is typed is there.
+// Where the last is the file's, that may erase it.
 fn type_records<W: World>(
     alloc: Global,
     world: &mut W,
     state: &mut State,
     letter: u8,
+    info: &FileInfo,
     file: OpenFile,
     line: &TypeLine,
 ) -> Result<Course, End>
     requires usable { IsUsable (spot W.World world.old state.old) }
     requires moment { is_moment state.old.moment ≡ true }
+    requires told { Some info.now
+        ≡ info_named state.old.table letter line.now.range.input.name }
     requires opened { IsOpened state.old.table letter line.now.range.input.name file }
     requires first { line.now.range.first ≤ file.count }
     ensures acts { (words : List Token)
@@ -233,35 +240,37 @@ fn type_records<W: World>(
     if last < count {
         return Ok(Course::Went(0));
     }
-    consume_last(alloc, world, state, letter, &line.range.input.name)
+    consume_told(alloc, world, state, letter, &line.range.input.name, info)
 }
 
-// Types the file of the line's name on the disk of a letter.
+// Types the file of the line's name, which a search found.
 fn type_on<W: World>(
     alloc: Global,
     world: &mut W,
     state: &mut State,
     words: &Tokens,
     line: &TypeLine,
-    letter: u8,
+    found: Found,
 ) -> Result<Course, End>
     requires usable { IsUsable (spot W.World world.old state.old) }
     requires moment { is_moment state.old.moment ≡ true }
+    requires found { IsFoundTold state.old.table found line.now.range.input.name }
     ensures acts { Acts (spot W.World world.old state.old) (spot W.World world.new state.new)
-        (λ units. spec.type_on (machine_of state.old units) words.now line.now letter) result
+        (λ units. spec.type_on (machine_of state.old units) words.now line.now found.letter)
+        result
         (course_of state.new) }
     ensures kept { state.new ≡ record state.old {
       table = state.new.table;
       places = state.new.places;
     } }
 {
-    match open_file(alloc, &state.table, letter, &line.range.input.name) {
-        Ok(file) if file.count < line.range.first => {
-            refuse_line(alloc, world, words.as_slice(), Refusal::BadOperand(4))
-        }
-        Ok(file) => type_records(alloc, world, state, letter, file, line),
-        Err(fault) => refuse_unfound(alloc, world, words, 1, fault),
+    let name = &line.range.input.name;
+    let info = info_found(&state.table, found).unwrap();
+    let file = open_told(alloc, &state.table, found.letter, name, &info)?;
+    if file.count < line.range.first {
+        return refuse_line(alloc, world, words.as_slice(), Refusal::BadOperand(4));
     }
+    type_records(alloc, world, state, found.letter, &info, file, line)
 }
 
 // Types the file that the line says.
@@ -284,7 +293,7 @@ fn type_file<W: World>(
 {
     let input = &line.range.input;
     match state.table.find_read(&input.name, &input.mode) {
-        Ok(found) => type_on(alloc, world, state, words, line, found.letter),
+        Ok(found) => type_on(alloc, world, state, words, line, found),
         Err(fault) => refuse_unfound(alloc, world, words, 1, fault),
     }
 }

@@ -29,7 +29,8 @@ use Rattle.cms_files.specs.Told.{HasStored, IsInfo, info_named, stored_named}
 any_file : Name → File
 any_file name = record { name = name; number = 0; format = F; length = 0; stamp = stamp_of first_moment; records = [] }
 
-held_at : (hs : List HeldFile) (k : ℕ) → k < length hs → (h : HeldFile) × (slice_get hs k ≡ Some h)
+-- a file stands at a place below their number
+pub held_at : (hs : List HeldFile) (k : ℕ) → k < length hs → (h : HeldFile) × (slice_get hs k ≡ Some h)
 held_at [] k less = absurd (omega (arith, less))
 held_at (h ∷ hs) zero less = (h, refl)
 held_at (h ∷ hs) (suc k) less = held_at hs k (omega (arith, less))

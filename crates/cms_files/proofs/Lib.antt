@@ -11,3 +11,4 @@ pub mod FileTold
 pub mod FilesRead
 pub mod Consumed
 pub mod Parts
+pub mod FoundTold

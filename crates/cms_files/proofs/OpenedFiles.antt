@@ -1,6 +1,6 @@
 -- Files that are opened.
 use Rattle.std.proofs.Common.{◌≡◌, ◌≤◌, ◌∙◌, ℕ, zero, suc, List, [], ◌∷◌, Option, Some, None, Err, length, slice_get, map, refl, sym, ap, subst}
-use Rattle.std.specs.Option.{option_map}
+use Rattle.std.specs.Option.{option_and_then, option_map}
 use Rattle.std.proofs.lemmas.Option.{same_Some}
 use Rattle.cms_names.specs.declared.name.Format.{Format}
 use Rattle.cms_names.specs.declared.name.Format.TheVariants.{F}
@@ -31,6 +31,7 @@ use Rattle.cms_search.proofs.Meeting.{letter_is}
 use Rattle.cms_search.proofs.Released.{letter_told, vdev_is}
 use Rattle.cms_files.specs.Files.{file_on}
 use Rattle.cms_files.specs.Opening.{HasRecords, IsOpened}
+use Rattle.cms_files.specs.Told.{info_named}
 use Rattle.cms_files.specs.declared.opening.OpenFile.{OpenFile}
 
 -- ---- the disk of a letter
@@ -102,6 +103,26 @@ opened_at t n name d place info file is at told opens starts count format device
       unread = λ same. unread_first _ _ _ starts.file.tree.leaves starts.file.entry.format starts.file.length starts.file.entry.count file.cursor starts.first
           (sym (ap (λ (i : FileInfo). i.format) tells) ∙ (sym format ∙ same));
     }
+
+-- it was opened by what is told of it
+pub opened_told : (t : Accesses) (n : ℕ) (name : Name) (d : Accessed) (info : FileInfo) (file : OpenFile) → Some info ≡ info_named t n name
+    → Some d ≡ option_map (λ (x : Seated). x.disk) (item_at t.seats n) → OpensIn d name file.cursor → StartsAt name d.volume file.cursor → file.count ≡ info.count → file.format ≡ info.format
+    → ((s : Seated) → item_at t.seats n ≡ Some s → option_map (λ (unit : UnitInfo). unit.vdev) (slice_get t.units s.letter.unit) ≡ Some file.vdev) → IsOpened t n name file
+opened_told t n name d info file told is opens starts count format device =
+    let seat = seat_with (item_at t.seats n) d is in
+    let at : place_of name seat.0.disk.volume ≡ Some starts.place = subst (λ (a : Accessed). place_of name a.volume ≡ Some starts.place) (sym seat.2) starts.place_is in
+    let found : Some info ≡ slice_get (infos_in seat.0.disk.volume) starts.place =
+    told ∙ (ap (λ (x : Option Seated). option_and_then (λ (y : Seated). option_and_then (λ (k : ℕ). slice_get (infos_in y.disk.volume) k) (place_of name y.disk.volume)) x) seat.1
+    ∙ ap (λ (p : Option ℕ). option_and_then (λ (k : ℕ). slice_get (infos_in seat.0.disk.volume) k) p) at) in
+    opened_at t n name d starts.place info file is (sym starts.place_is) (subst (λ (a : Accessed). slice_get (infos_in a.volume) starts.place ≡ Some info) seat.2 (sym found)) opens starts count format device
+
+-- the letter of a file of which something is told has a disk
+pub told_seated : (t : Accesses) (n : ℕ) (name : Name) (info : FileInfo) → Some info ≡ info_named t n name → (s : Seated) × (item_at t.seats n ≡ Some s)
+told_seated t n name info told = cases (item_at t.seats n) told
+  where
+    cases : (x : Option Seated) → Some info ≡ option_and_then (λ (y : Seated). option_and_then (λ (k : ℕ). slice_get (infos_in y.disk.volume) k) (place_of name y.disk.volume)) x → (s : Seated) × (x ≡ Some s)
+    cases None e = absurd (cc e)
+    cases (Some s) e = (s, refl)
 
 -- the machine finds it
 pub opened_found : (t : Accesses) (s : Machine) (n : ℕ) (name : Name) (file : OpenFile) → IsOpened t n name file → Shows t s → HasRecords file.count (file_on s name (letter_at s n))

@@ -1,5 +1,5 @@
 -- What a table tells of its files.
-use Rattle.std.specs.Prelude.{◌≡◌, ℕ, length, slice_get, Option, Result, Ok, Err}
+use Rattle.std.specs.Prelude.{◌≡◌, ℕ, length, slice_get, Option, Some, Result, Ok, Err}
 use Rattle.std.specs.Option.{option_and_then}
 use Rattle.cms_names.specs.declared.name.Name.{Name}
 use Rattle.cms_model.specs.Minidisks.{File}
@@ -42,3 +42,9 @@ pub record IsInfo (info : FileInfo) (f : File) : Type 0 where
   pub size : info.length ≡ f.length
   pub stamp : info.stamp ≡ f.stamp
   pub count : info.count ≡ length f.records
+
+-- a search found the file of a name: what is told of what it found is told of that
+pub record IsFoundTold (t : Accesses) (found : Found) (name : Name) : Type 0 where
+  pub info : FileInfo
+  pub place : info_found t found ≡ Some info
+  pub named : info_named t found.letter name ≡ Some info

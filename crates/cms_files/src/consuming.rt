@@ -1,5 +1,5 @@
 // Files of mode number 3, which are erased once they are read to their end.
-ghost use Rattle.std.specs.Prelude.{◌≡◌, true, IsSome, Ok};
+ghost use Rattle.std.specs.Prelude.{◌≡◌, true, IsSome, Some, Ok};
 ghost use Rattle.std.specs.Option.{ForSome};
 ghost use Rattle.cms_disk.specs.Disks.{place_of};
 ghost use Rattle.cms_fields.specs.Moments.{is_moment};
@@ -9,10 +9,12 @@ ghost use Rattle.cms_search.specs.Searches.{item_at};
 ghost use Rattle.cms_search.specs.Shows.{Shows};
 ghost use Rattle.cms_search.specs.Tables.{letters_of, writing};
 ghost use Rattle.cms_files.specs.Consuming as spec;
+ghost use Rattle.cms_files.specs.Told as told;
 ghost use Rattle.cms_files.specs.Updating.{updated_of};
 
 use crate::told::info_named;
 use crate::updating::{Updated, update_disk};
+use cms_disk::FileInfo;
 use cms_edf::Change;
 use cms_names::Name;
 use cms_search::{Course, End, State, Table};
@@ -83,4 +85,30 @@ pub fn consume_last<W: World>(
         Updated::Done => Ok(Course::Went(0)),
         Updated::Stopped(course) => Ok(course),
     }
+}
+
+/// The same of a file of which this is told.
+pub fn consume_told<W: World>(
+    alloc: Global,
+    world: &mut W,
+    state: &mut State,
+    letter: u8,
+    name: &Name,
+    info: &FileInfo,
+) -> Result<Course, End>
+    requires usable { IsUsable (spot W.World world.old state.old) }
+    requires moment { is_moment state.old.moment ≡ true }
+    requires told { Some info.now ≡ told.info_named state.old.table letter name.now }
+    ensures acts { Acts (spot W.World world.old state.old) (spot W.World world.new state.new)
+        (λ units. spec.last_consuming (machine_of state.old units) letter name.now) result
+        (course_of state.new) }
+    ensures kept { state.new ≡ record state.old {
+      table = state.new.table;
+      places = state.new.places;
+    } }
+{
+    if info.number != READ_ONCE {
+        return Ok(Course::Went(0));
+    }
+    consume_last(alloc, world, state, letter, name)
 }

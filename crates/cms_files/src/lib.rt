@@ -16,13 +16,13 @@ mod told;
 mod updating;
 mod writing;
 
-pub use consuming::{consume, consume_last, is_consumed};
+pub use consuming::{consume, consume_last, consume_told, is_consumed};
 pub use each::{FileUpdate, update_each, update_taken};
 pub use gathering::Gathered;
 pub use identifier::{
     FileInput, NameChoice, exec_kind, file_input, full_name, name_choice, output_name, takes_number,
 };
-pub use opening::{OpenFile, open_file};
+pub use opening::{OpenFile, open_file, open_told};
 pub use pushing::{has_room, stack_lines};
 pub use searching::{NO_FILE, refuse_exists, refuse_unfound};
 pub use stacking::StackEnd;

@@ -1,7 +1,13 @@
-use Rattle.std.proofs.Common.{refl}
+use Rattle.std.proofs.Common.{◌∙◌, refl, sym}
 use Rattle.cms_search.specs.Calls.{spot}
+use Rattle.cms_files.proofs.FoundTold.{found_told}
 use Rattle.cms_cards.proofs.Fetches.{search_found, search_unfound}
 use Rattle.cms_cards.proofs.fetching.fetch.Goals as goal
+
+pub fetch_on-requires-clause-found : goal.fetch_on-requires-clause-found
+fetch_on-requires-clause-found g c =
+    let input = c.args.input.now in
+    found_told c.args.state.now.table input.mode input.name c.in-Ok.found (sym c.find_read.ensures.found ∙ c.in-Ok.is)
 
 pub returns-in-Ok-clause-acts : goal.returns-in-Ok-clause-acts
 returns-in-Ok-clause-acts g c =

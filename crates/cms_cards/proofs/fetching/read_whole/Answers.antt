@@ -3,7 +3,7 @@ use Rattle.cms_search.specs.Calls.{spot}
 use Rattle.cms_search.proofs.Acts.{comes_none, cut_off, no_memory}
 use Rattle.cms_search.proofs.Handing.{only_read}
 use Rattle.cms_world.specs.Seen.{seen}
-use Rattle.cms_cards.proofs.Fetches.{may_read, read_data, read_unread, some_place, tree}
+use Rattle.cms_cards.proofs.Fetches.{may_read, read_data, not_missing, read_unread, tree}
 use Rattle.cms_cards.proofs.fetching.read_whole.Goals as goal
 
 pub get-requires : goal.get-requires
@@ -14,9 +14,6 @@ get-requires g c = record {
 
 pub returns-in_default-clause-acts : goal.returns-in_default-clause-acts
 returns-in_default-clause-acts g c = no_memory _ _ _ _ _ (comes_none _ _)
-
-pub returns-in_default-find-clause-acts : goal.returns-in_default-find-clause-acts
-returns-in_default-find-clause-acts g c = no_memory _ _ _ _ _ (comes_none _ _)
 
 pub returns-in-Ok-clause-acts : goal.returns-in-Ok-clause-acts
 returns-in-Ok-clause-acts g c =
@@ -31,7 +28,7 @@ returns-in-Device-clause-acts g c =
     let got = c.in-Err.ensures in
     read_unread (spot g.W.World c.args.world.now s) c.args.name.now c.args.letter c.in-Some.disk.now c.in-Some.ensures (seen g.W.World c.get.new.world)
     (spot g.W.World c.refuse_unread.new.world s) c.vdev-vdev.result c.in-Err.fault c.refuse_unread.result c.refused.result c.in-Device.is (only_read _ _ _ _ got.reads) got.reads.cause got.file
-    (some_place _ _ c.in-Some-find.ensures) c.vdev-vdev.ensures.accessed c.refuse_unread.ensures.does c.refuse_unread.ensures.went refl c.refused.ensures
+    (λ none. not_missing c.get.result c.in-Err.fault c.in-Err.is c.in-Device.is (c.get.ensures.absent none)) c.vdev-vdev.ensures.accessed c.refuse_unread.ensures.does c.refuse_unread.ensures.went refl c.refused.ensures
 
 -- there is no memory
 pub returns-in_default-fault-clause-acts : goal.returns-in_default-fault-clause-acts

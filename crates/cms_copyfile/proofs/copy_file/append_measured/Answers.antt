@@ -33,6 +33,9 @@ extended_shape-shape-requires-clause-count g c =
     let more = c.requires.count in
     omega (arith, own, more)
 
+pub put_copied-requires-clause-told : goal.put_copied-requires-clause-told
+put_copied-requires-clause-told g c = c.requires.file.input
+
 pub put_copied-requires-clause-fits : goal.put_copied-requires-clause-fits
 put_copied-requires-clause-fits g c = c.extended_shape-shape.ensures.fits
 

@@ -7,6 +7,9 @@ use Rattle.cms_copyfile.proofs.CopyShaped.{shaped_as}
 use Rattle.cms_copyfile.proofs.TablesTold.{number_few, stamp_valid}
 use Rattle.cms_copyfile.proofs.copy_file.copy_measured.Goals as goal
 
+pub put_copied-requires-clause-told : goal.put_copied-requires-clause-told
+put_copied-requires-clause-told g c = c.requires.file.input
+
 pub put_copied-requires-clause-fits : goal.put_copied-requires-clause-fits
 put_copied-requires-clause-fits g c = λ s at.
     let line = c.args.line.now in

@@ -19,6 +19,9 @@ use Rattle.cms_copyfile.proofs.OneRead.{whole}
 use Rattle.cms_copyfile.proofs.TablesTold.{wanted_few}
 use Rattle.cms_copyfile.proofs.copy_file.copy_records.Goals as goal
 
+pub open_input-requires : goal.open_input-requires
+open_input-requires g c = record { told = c.requires.file.input }
+
 pub measure_input-measured-requires-clause-blocks : goal.measure_input-measured-requires-clause-blocks
 measure_input-measured-requires-clause-blocks g c =
     opened_blocks _ c.args.state.now.table c.args.file.now.found.letter c.args.file.now.found.name c.in_ok-input.input c.in_ok-input.ensures.opened c.requires.usable
