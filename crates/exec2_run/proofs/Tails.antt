@@ -1,39 +1,49 @@
--- The fault of a statement's last part is that of the statement.
-use Rattle.std.proofs.Common.{◌≡◌, ◌∙◌, ◌∷◌, [], ◌⊎◌, inl, inr, ◌-◌, ◌≤◌, ℕ, suc, List, length, take, drop, get_or, sym, ap, subst, arith}
-use Rattle.std.specs.Prelude.{Ok, Err}
+-- What a statement's last part does is what the statement does.
+use Rattle.std.proofs.Common.{◌≡◌, ◌∙◌, ◌∷◌, [], ◌-◌, ◌≤◌, ℕ, suc, List, length, take, drop, get_or, refl, sym, ap, subst, arith, Bool, true}
+use Rattle.std.specs.Prelude.{Option, Some, None, is_some, slice_get, Result, Ok, Err, IfSome}
 use Rattle.std.proofs.lemmas.List.{take_all}
 use Rattle.cms_text.specs.Texts.{Text}
 use Rattle.exec2_parse.specs.Expansion.{Binding}
-use Rattle.exec2_run.specs.Calls.{called, called_at, called_by}
+use Rattle.exec2_run.specs.Assignments.{assigned, assigned_to}
+use Rattle.exec2_run.specs.Calls.{called, called_at, called_by, gone_back, returned}
+use Rattle.exec2_run.specs.Faults.{Does}
 use Rattle.exec2_run.specs.Given.{seen}
 use Rattle.exec2_run.specs.Loops.{end_of_range, first_of, looped, opened, passes, range_looped}
-use Rattle.exec2_run.specs.Values.{operands}
+use Rattle.exec2_run.specs.Values.{ended, operands}
 use Rattle.exec2_run.specs.State.{Procedure}
+use Rattle.exec2_run.specs.declared.calls.Call.{Call}
 use Rattle.exec2_run.specs.declared.fault.Fault.{Fault}
-use Rattle.exec2_run.specs.declared.fault.Fault.TheVariants.{Memory}
 use Rattle.exec2_run.specs.declared.loops.Passes.{Passes}
 use Rattle.exec2_run.specs.declared.values.Operands.{Operands}
 
-pub range_fails : (s : Procedure) (names : Binding) (range : Text) (words : List Text) (past : ℕ) (often : Passes) (f : Fault) → names ≡ seen s → end_of_range s range ≡ Ok past
-    → passes names words ≡ Ok often
-    → (f ≡ Memory) ⊎ (opened s past often ≡ Err f) → (f ≡ Memory) ⊎ (range_looped s range words ≡ Err f)
-range_fails s names range words past often f is e g (inl m) = inl m
-range_fails s names range words past often f is e g (inr h) = inr (rw (← is, e, g) h)
+pub does_as : {S A : Type 0} (d e : Result (S × A) Fault) (old new : S) (r : Result A Fault) → d ≡ e → Does e old new r → Does d old new r
+does_as {S} {A} d e old new r same h = subst (λ (x : Result (S × A) Fault). Does x old new r) (sym same) h
 
-pub loop_fails : (s : Procedure) (names : Binding) (words : List Text) (value text : Text) (behind : List Text) (f : Fault) → names ≡ seen s → first_of names words ≡ Ok (value, behind) → text ≡ value
-    → (f ≡ Memory) ⊎ (range_looped s text behind ≡ Err f) → (f ≡ Memory) ⊎ (looped s words ≡ Err f)
+pub assign_is : (s : Procedure) (words : List Text) (name : Text) → 2 ≤ length words → name ≡ get_or words 0 name
+    → assigned s words ≡ assigned_to s name (take (length words - 2) (drop 2 words))
+unfolding assigned
+assign_is s [] name some at = absurd (omega (arith, some))
+assign_is s (a ∷ []) name some at = absurd (omega (arith, some))
+assign_is s (a ∷ b ∷ words) name some at =
+    ap (λ (n : Text). assigned_to s n words) (sym at) ∙ ap (assigned_to s name) (sym (take_all (suc (suc (length words)) - 2) words (omega arith)))
+
+pub range_is : (s : Procedure) (names : Binding) (range : Text) (words : List Text) (past : ℕ) (often : Passes) → names ≡ seen s → end_of_range s range ≡ Ok past
+    → passes names words ≡ Ok often → range_looped s range words ≡ opened s past often
+range_is s names range words past often is e g = rw (← is, e, g) refl
+
+pub loop_is : (s : Procedure) (names : Binding) (words : List Text) (value text : Text) (behind : List Text) → names ≡ seen s → first_of names words ≡ Ok (value, behind)
+    → text ≡ value → looped s words ≡ range_looped s text behind
 unfolding looped
-loop_fails s names words value text behind f is e same (inl m) = inl m
-loop_fails s names words value text behind f is e same (inr h) =
+loop_is s names words value text behind is e same =
     let first : first_of (seen s) words ≡ Ok (value, behind) = subst (λ (n : Binding). first_of n words ≡ Ok (value, behind)) is e in
-    inr (rw first (subst (λ (t : Text). range_looped s t behind ≡ Err f) same h))
+    rw first (ap (λ (t : Text). range_looped s t behind) (sym same))
 
-pub call_fails : (s : Procedure) (names : Binding) (words slice : List Text) (label : Text) (f : Fault) (o : Operands) → names ≡ seen s → o ≡ operands names words → slice ≡ o.words → 1 ≤ length slice
-    → label ≡ get_or slice 0 label
-    → (f ≡ Memory) ⊎ (called_at s label (take (length slice - 1) (drop 1 slice)) o.is_cut ≡ Err f) → (f ≡ Memory) ⊎ (called s words ≡ Err f)
+pub call_is : (s : Procedure) (names : Binding) (words slice : List Text) (label : Text) (o : Operands) → names ≡ seen s → o ≡ operands names words → slice ≡ o.words → 1 ≤ length slice
+    → label ≡ get_or slice 0 label → called s words ≡ called_at s label (take (length slice - 1) (drop 1 slice)) o.is_cut
 unfolding called
-call_fails s names words [] label f o seen_is is same h at e = absurd (omega (arith, h))
-call_fails s names words (w ∷ ws) label f o seen_is is same h at (inl m) = inl m
-call_fails s names words (w ∷ ws) label f o seen_is is same h at (inr g) =
-    inr (ap (λ (p : Operands). called_by s p.words p.is_cut) (sym (is ∙ ap (λ (n : Binding). operands n words) seen_is)) ∙ ap (λ (xs : List Text). called_by s xs o.is_cut) (sym same)
-    ∙ subst (λ (l : Text). called_at s l ws o.is_cut ≡ Err f) at (subst (λ (vs : List Text). called_at s label vs o.is_cut ≡ Err f) (take_all (suc (length ws) - 1) ws (omega arith)) g))
+call_is s names words [] label o seen_is is same h at = absurd (omega (arith, h))
+call_is s names words (w ∷ ws) label o seen_is is same h at =
+    ap (λ (p : Operands). called_by s p.words p.is_cut) (sym (is ∙ ap (λ (n : Binding). operands n words) seen_is))
+    ∙ ap (λ (xs : List Text). called_by s xs o.is_cut) (sym same)
+    ∙ ap (λ (l : Text). called_at s l ws o.is_cut) (sym at)
+    ∙ ap (λ (vs : List Text). called_at s label vs o.is_cut) (sym (take_all (suc (length ws) - 1) ws (omega arith)))

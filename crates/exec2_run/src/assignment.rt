@@ -46,10 +46,7 @@ impl ExecState {
         let [name, _, right @ ..] = words else {
             return Err(Fault::BadStatement);
         };
-        match self.assign_to(name, right) {
-            Ok(want) => Ok(want),
-            Err(fault) => Err(fault),
-        }
+        self.assign_to(name, right)
     }
 
     fn assign_to(&mut self, name: &Word, right: &[Word]) -> Result<Want, Fault>
@@ -60,10 +57,7 @@ impl ExecState {
         }
         let name = target(self.alloc, &self.seen(), name)?;
         let value = right_side(self.alloc, &self.seen(), right)?;
-        match self.set_to(name, value) {
-            Ok(want) => Ok(want),
-            Err(fault) => Err(fault),
-        }
+        self.set_to(name, value)
     }
 
     /// The same of a name that stands there as it is.
@@ -72,10 +66,7 @@ impl ExecState {
         ensures { Does (spec.named self.old name.now right.now) self.old self.new result }
     {
         let value = right_side(self.alloc, &self.seen(), right)?;
-        match self.set_named(name, value) {
-            Ok(want) => Ok(want),
-            Err(fault) => Err(fault),
-        }
+        self.set_named(name, value)
     }
 }
 

@@ -30,10 +30,7 @@ pub fn borrowed_target(word: &[u8]) -> Option<&[u8]>
     ensures name { IfSome result (λ name. (names : Binding) → target names word.now ≡ Ok name.now) }
     ensures short { IfSome result (λ name. length name.now ≤ longest_text) }
 {
-    match variable_in(word) {
-        Some(name) => Some(name),
-        None => None,
-    }
+    variable_in(word)
 }
 
 /// The variable that a word names as it stands: an ampersand and the name, which has no ampersand and no small letter and isn't given.

@@ -26,10 +26,7 @@ impl ExecState {
         let [label, values @ ..] = operands.words.as_slice() else {
             return Err(missing(operands.is_cut));
         };
-        match self.call_at(label, values, operands.is_cut) {
-            Ok(want) => Ok(want),
-            Err(fault) => Err(fault),
-        }
+        self.call_at(label, values, operands.is_cut)
     }
 
     fn call_at(&mut self, label: &Word, values: &[Word], is_cut: bool) -> Result<Want, Fault>
@@ -38,10 +35,7 @@ impl ExecState {
     {
         let place = self.place_named(label.bytes())?;
         whole(is_cut)?;
-        match self.enter(place, values) {
-            Ok(want) => Ok(want),
-            Err(fault) => Err(fault),
-        }
+        self.enter(place, values)
     }
 
     /// Goes on at a place with these arguments.
@@ -93,10 +87,7 @@ impl ExecState {
         }
         let operands = expanded_words(self.alloc, &self.seen(), words)?;
         ended(operands.words.as_slice(), operands.is_cut)?;
-        match self.go_back() {
-            Ok(want) => Ok(want),
-            Err(fault) => Err(fault),
-        }
+        self.go_back()
     }
 
     /// Goes to the line behind the last &CALL with what was put aside.

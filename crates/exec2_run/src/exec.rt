@@ -495,10 +495,7 @@ impl ExecState {
         ensures { Does (spec.run self.old words.now) self.old self.new result }
     {
         let statement = self.guarded(kind, words)?;
-        match self.run_kind(statement.kind, statement.words) {
-            Ok(want) => Ok(want),
-            Err(fault) => Err(fault),
-        }
+        self.run_kind(statement.kind, statement.words)
     }
 
     /// The statement that runs: of &IF and a comparison what follows it, or nothing where that doesn't hold.

@@ -5,54 +5,39 @@ ghost use Rattle.exec2_run.specs.Faults.{number_of_fault};
 use exec2_funcs::FuncFault;
 use exec2_parse::ExpandFault;
 use std::alloc::AllocError;
-use thiserror::Error;
 
 /// Why a statement fails: the first of its faults from the left.
-#[derive(Clone, Copy, Debug, Error)]
+#[derive(Clone, Copy)]
 pub enum Fault {
     /// 1: a function doesn't take so many arguments.
-    #[error("the number of arguments is wrong")]
     Arity,
     /// 2: a word in a number's place is no number, or outside the range of that place.
-    #[error("a word is not a number, or out of range")]
     NotNumber,
     /// 3: a number is outside signed 64 bits.
-    #[error("a result is outside signed 64 bits")]
     Overflow,
     /// 4: a divisor is 0.
-    #[error("a divisor is 0")]
     Zero,
     /// 5: a word, a value or a text has more than 255 bytes.
-    #[error("a text is longer than 255 bytes")]
     TooLong,
     /// 6: the statement has none of the forms of its kind.
-    #[error("the statement is not valid")]
     BadStatement,
     /// 7: no line has the label; of a range, no line below.
-    #[error("there is no such label")]
     NoLabel,
     /// 8: &RETURN where no &CALL is open.
-    #[error("no call is open")]
     NoCall,
     /// 9: more than 100 loops or calls are open.
-    #[error("more than 100 loops or calls are open")]
     TooDeep,
     /// 10: no &END follows.
-    #[error("there is no &END")]
     NoEnd,
     /// 11: a variable is set that is given.
-    #[error("a given variable is set")]
     Given,
     /// 12: a line outside 1 to the last plus 1.
-    #[error("there is no such line")]
     OutsideLines,
     /// 13: the program stack has no room.
-    #[error("the program stack is full")]
     StackFull,
     /// 14: more than 1,000 variables are set.
-    #[error("more than 1000 variables are set")]
     TooManyVariables,
-    #[error("no memory")]
+    /// There is no memory, which is no fault of a procedure.
     Memory,
 }
 

@@ -36,10 +36,7 @@ impl ExecState {
         ensures { Does (spec.looped self.old words.now) self.old self.new result }
     {
         let first = first_of(self.alloc, &self.seen(), words)?;
-        match self.repeat_range(first.value.bytes(), first.behind) {
-            Ok(want) => Ok(want),
-            Err(fault) => Err(fault),
-        }
+        self.repeat_range(first.value.bytes(), first.behind)
     }
 
     fn repeat_range(&mut self, range: &[u8], words: &[Word]) -> Result<Want, Fault>
@@ -47,10 +44,7 @@ impl ExecState {
     {
         let past = self.end_of_range(range)?;
         let passes = passes(self.alloc, &self.seen(), words)?;
-        match self.open_loop(past, passes) {
-            Ok(want) => Ok(want),
-            Err(fault) => Err(fault),
-        }
+        self.open_loop(past, passes)
     }
 
     /// The place past the range: up to a label below, or so many lines.
