@@ -37,6 +37,7 @@ use Rattle.exec2_run.specs.declared.reading.Reading.TheVariants as reading
 use Rattle.exec2_run.specs.declared.want.Want.{Want}
 use Rattle.exec2_run.specs.declared.want.Want.TheVariants.{Next, Ended, Failed}
 use Rattle.exec2_run.specs.declared.fault.Fault.{Fault}
+use Rattle.exec2_run.specs.declared.given.AtStart.{AtStart}
 use Rattle.exec2_run.specs.declared.fault.Fault.TheVariants.{NotNumber, BadStatement, StackFull}
 
 -- ---- &EXIT and &ERROR
@@ -234,14 +235,14 @@ refused s = Ok (s, Failed (number_of_fault StackFull) s.line)
 
 -- ---- the start
 
--- the procedure begins with its arguments, before its first line, and its commands go to CMS; a line has no more than 1,000 words
-unfoldable pub begun : List Text → Text → FileName → Result Procedure Fault
-begun lines called f = with_arguments (record {
+-- before its first line it has no arguments, and its commands go to CMS
+abbrev pub before_first : List Text → AtStart → Procedure
+before_first lines start = record {
   lines = lines;
   next = 0;
   line = 0;
   moment = first_moment;
-  start = at_start called f;
+  start = start;
   variables = record { arguments = finite.empty; others = finite.empty };
   count = 0;
   loops = [];
@@ -251,7 +252,11 @@ begun lines called f = with_arguments (record {
   code = pos 0;
   destination = destination.Cms;
   reading = reading.Nothing;
-}) (words_of (behind_name called))
+}
+
+-- the procedure begins with its arguments; a line has no more than 1,000 words
+unfoldable pub begun : List Text → Text → FileName → Result Procedure Fault
+begun lines called f = with_arguments (before_first lines (at_start called f)) (words_of (behind_name called))
 
 -- ---- what a call answers
 

@@ -1,7 +1,9 @@
 // A procedure that runs.
 ghost use Rattle.std.specs.Prelude.{◌≡◌, ◌≢◌, [], IfOk, IfErr, OnOk, OnErr, Ok, Err, ◌⊎◌, MatchResult, length, unwrap_or, slice_get};
 ghost use Rattle.exec2_run.specs.Faults.{Answers, Does, Leads, number_of_fault};
-ghost use Rattle.exec2_run.specs.Given.{bound, seen, seen_at};
+ghost use Rattle.exec2_run.specs.Given.{behind_name, bound, seen, seen_at};
+ghost use Rattle.exec2_run.specs.Variables.{with_arguments};
+ghost use Rattle.exec2_parse.specs.Words.{words_of};
 ghost use Rattle.exec2_run.specs.Steps as spec;
 ghost use Rattle.exec2_parse.specs.Kinds.{guards, kind_of};
 ghost use Rattle.exec2_run.specs.Due.{at_place, place_of, words_due};
@@ -176,6 +178,7 @@ impl Model for Exec {
 
 impl Exec {
     /// A procedure that begins, called by a line, which goes from the procedure's name on, and found in a file.
+    #[tactic(auto, unfolding(crate::specs::Steps::begun))]
     pub fn start(
         alloc: Global,
         procedure: Procedure,
@@ -184,8 +187,9 @@ impl Exec {
     ) -> Result<Exec, AllocError>
         ensures { IfOk result (λ exec. spec.begun procedure called.now found.now ≡ Ok exec) }
     {
-        let state = ExecState::start(alloc, procedure, called, found)?;
-        let state = Box::new(alloc, state)?;
+        let start = AtStart::of(alloc, called, found)?;
+        let mut state = Box::new(alloc, ExecState::before_first(alloc, procedure, start))?;
+        state.set_called(called)?;
         Ok(Exec { state })
     }
 
@@ -250,24 +254,18 @@ impl Exec {
 }
 
 impl ExecState {
-    /// A procedure that begins, called by a line, which goes from the procedure's name on, and found in a file.
-    #[tactic(auto, unfolding(crate::specs::Steps::begun))]
-    pub fn start(
-        alloc: Global,
-        procedure: Procedure,
-        called: &Line,
-        found: &FileName,
-    ) -> Result<ExecState, AllocError>
-        ensures { IfOk result (λ exec. spec.begun procedure called.now found.now ≡ Ok exec) }
+    /// A procedure before its first line, without arguments.
+    fn before_first(alloc: Global, lines: Procedure, start: AtStart) -> ExecState
+        ensures { result ≡ spec.before_first lines start }
     {
-        let mut exec = ExecState {
+        ExecState {
             alloc,
-            lines: procedure,
+            lines,
             next: 0,
             line: 0,
             // before the first statement; no statement sees it
             moment: FIRST_MOMENT,
-            start: AtStart::of(alloc, called, found)?,
+            start,
             variables: Variables::new(alloc),
             count: 0,
             loops: Loops::new(alloc),
@@ -277,10 +275,17 @@ impl ExecState {
             code: 0,
             destination: Destination::Cms,
             reading: Reading::Nothing,
-        };
-        let words = words_of(alloc, behind_name(called.bytes()))?;
-        match exec.set_arguments(words.as_slice()) {
-            Ok(()) => Ok(exec),
+        }
+    }
+
+    /// The words behind the name in the line that called it become the arguments.
+    fn set_called(&mut self, called: &Line) -> Result<(), AllocError>
+        ensures { OnOk result (with_arguments self.old (words_of (behind_name called.now))
+            ≡ Ok self.new) }
+    {
+        let words = words_of(self.alloc, behind_name(called.bytes()))?;
+        match self.set_arguments(words.as_slice()) {
+            Ok(()) => Ok(()),
             Err(_) => Err(AllocError),
         }
     }
