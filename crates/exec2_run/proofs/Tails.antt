@@ -1,31 +1,21 @@
 -- What a statement's last part does is what the statement does.
-use Rattle.std.proofs.Common.{◌≡◌, ◌∙◌, ◌∷◌, [], ◌-◌, ◌≤◌, ℕ, suc, List, length, take, drop, get_or, refl, sym, ap, subst, arith, Bool, true}
-use Rattle.std.specs.Prelude.{Option, Some, None, is_some, slice_get, Result, Ok, Err, IfSome}
+use Rattle.std.proofs.Common.{◌≡◌, ◌∙◌, ◌∷◌, [], ◌-◌, ◌≤◌, ℕ, suc, List, length, take, drop, get_or, refl, sym, ap, subst, arith}
+use Rattle.std.specs.Prelude.{Result, Ok, Err}
 use Rattle.std.proofs.lemmas.List.{take_all}
 use Rattle.cms_text.specs.Texts.{Text}
 use Rattle.exec2_parse.specs.Expansion.{Binding}
-use Rattle.exec2_run.specs.Assignments.{assigned, assigned_to}
-use Rattle.exec2_run.specs.Calls.{called, called_at, called_by, gone_back, returned}
+use Rattle.exec2_run.specs.Calls.{called, called_at, called_by}
 use Rattle.exec2_run.specs.Faults.{Does}
 use Rattle.exec2_run.specs.Given.{seen}
 use Rattle.exec2_run.specs.Loops.{end_of_range, first_of, looped, opened, passes, range_looped}
-use Rattle.exec2_run.specs.Values.{ended, operands}
+use Rattle.exec2_run.specs.Values.{operands}
 use Rattle.exec2_run.specs.State.{Procedure}
-use Rattle.exec2_run.specs.declared.calls.Call.{Call}
 use Rattle.exec2_run.specs.declared.fault.Fault.{Fault}
 use Rattle.exec2_run.specs.declared.loops.Passes.{Passes}
 use Rattle.exec2_run.specs.declared.values.Operands.{Operands}
 
 pub does_as : {S A : Type 0} (d e : Result (S × A) Fault) (old new : S) (r : Result A Fault) → d ≡ e → Does e old new r → Does d old new r
 does_as {S} {A} d e old new r same h = subst (λ (x : Result (S × A) Fault). Does x old new r) (sym same) h
-
-pub assign_is : (s : Procedure) (words : List Text) (name : Text) → 2 ≤ length words → name ≡ get_or words 0 name
-    → assigned s words ≡ assigned_to s name (take (length words - 2) (drop 2 words))
-unfolding assigned
-assign_is s [] name some at = absurd (omega (arith, some))
-assign_is s (a ∷ []) name some at = absurd (omega (arith, some))
-assign_is s (a ∷ b ∷ words) name some at =
-    ap (λ (n : Text). assigned_to s n words) (sym at) ∙ ap (assigned_to s name) (sym (take_all (suc (suc (length words)) - 2) words (omega arith)))
 
 pub range_is : (s : Procedure) (names : Binding) (range : Text) (words : List Text) (past : ℕ) (often : Passes) → names ≡ seen s → end_of_range s range ≡ Ok past
     → passes names words ≡ Ok often → range_looped s range words ≡ opened s past often

@@ -1,5 +1,5 @@
 // Assignments: the value of a right side.
-ghost use Rattle.std.specs.Prelude.{◌≡◌, ◌≤◌, IfOk, IfSome, Ok, drop, length};
+ghost use Rattle.std.specs.Prelude.{◌≡◌, ◌≤◌, Err, IfOk, IfSome, MatchResult, Ok, drop, length};
 ghost use Rattle.cms_text.specs.Limits.{longest_text};
 ghost use Rattle.cms_text.specs.Numbers as numbers;
 ghost use Rattle.exec2_run.specs.Assignments as spec;
@@ -145,11 +145,17 @@ fn function_value(
     if !takes(function, words.len()) {
         return Err(Fault::Arity);
     }
-    let arguments = arguments(alloc, seen, words)?;
-    if arguments.is_cut {
-        return Err(fault_before(alloc, function, arguments.words)?);
+    expanded_call(alloc, function, arguments(alloc, seen, words)?)
+}
+
+/// The value of a function of words that are expanded.
+fn expanded_call(alloc: Global, function: Function, given: Operands) -> Result<Word, Fault>
+    ensures { Answers (spec.expanded_call function given) result }
+{
+    if given.is_cut {
+        return Err(fault_before(alloc, function, given.words)?);
     }
-    Ok(call(alloc, function, &arguments.words)?)
+    Ok(call(alloc, function, &given.words)?)
 }
 
 /// Whether a function takes so many words.
@@ -205,11 +211,22 @@ fn plain_value(alloc: Global, operands: &Operands) -> Result<Word, Fault>
         }
         [word] if !operands.is_cut => Ok(Word::of(alloc, word.bytes())?),
         [first, others @ ..] => {
-            let sum = added(begun(first.bytes())?, others)?;
-            whole(operands.is_cut)?;
-            Ok(written(alloc, sum.whole()?)?)
+            let total = sum_of(first.bytes(), others, operands.is_cut)?;
+            Ok(written(alloc, total)?)
         }
     }
+}
+
+/// The sum of words of which this is the first.
+fn sum_of(first: &[u8], others: &[Word], is_cut: bool) -> Result<i64, Fault>
+    ensures { MatchResult result
+        (λ total. spec.sum_value first.now others.now is_cut ≡ Ok (numbers.written total))
+        (λ fault. spec.sum_value first.now others.now is_cut ≡ Err fault) }
+{
+    let sum = added(begun(first)?, others)?;
+    whole(is_cut)?;
+    let total = sum.whole()?;
+    Ok(total)
 }
 
 /// A sum that begins with this word: a sign has 0 before it.

@@ -6,7 +6,7 @@ ghost use Rattle.exec2_run.specs.Faults.{Does};
 use crate::calls::Call;
 use crate::exec::ExecState;
 use crate::loops::Loops;
-use crate::values::{ended, expanded_words, missing, whole};
+use crate::values::{expanded_words, missing, whole};
 use crate::variables::numbered;
 use crate::{Fault, Want};
 use cms_text::Word;
@@ -78,15 +78,14 @@ impl ExecState {
     }
 
     /// &RETURN.
-    #[tactic(auto, unfolding(crate::specs::Calls::returned))]
+    #[tactic(auto, unfolding(crate::specs::Calls::returned, crate::specs::Outputs::no_words))]
     pub fn give_back(&mut self, words: &[Word]) -> Result<Want, Fault>
         ensures { Does (spec.returned self.old words.now) self.old self.new result }
     {
         if self.calls.get(0).is_none() {
             return Err(Fault::NoCall);
         }
-        let operands = expanded_words(self.alloc, &self.seen(), words)?;
-        ended(operands.words.as_slice(), operands.is_cut)?;
+        self.no_words(words)?;
         self.go_back()
     }
 

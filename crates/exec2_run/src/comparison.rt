@@ -3,7 +3,6 @@ ghost use Rattle.std.specs.Prelude.{◌≡◌, IfSome, Ok};
 ghost use Rattle.exec2_run.specs.Comparisons as spec;
 ghost use Rattle.exec2_run.specs.Given.{bound};
 ghost use Rattle.exec2_run.specs.Faults.{Answers};
-ghost use Rattle.exec2_run.specs.Steps.{compared};
 
 use crate::Fault;
 use crate::borrowed::borrowed;
@@ -115,30 +114,41 @@ pub fn holds(comparison: Comparison, left: &[u8], right: &[u8]) -> bool
 pub fn test_holds(alloc: Global, seen: &Seen<'_>, test: &Test) -> Result<bool, Fault>
     ensures { Answers (spec.test_holds (bound seen.now) test.now) result }
 {
-    if let Some(it) = holds_borrowed(seen, test) {
+    words_hold(alloc, seen, &test.left, test.comparison, &test.right)
+}
+
+/// Whether a comparison holds of two words as they stand.
+#[tactic(auto, unfolding(crate::specs::Comparisons::test_holds))]
+pub fn words_hold(
+    alloc: Global,
+    seen: &Seen<'_>,
+    left: &Word,
+    comparison: Comparison,
+    right: &Word,
+) -> Result<bool, Fault>
+    ensures { Answers (spec.test_holds (bound seen.now)
+        (record { left = left.now; comparison = comparison; right = right.now })) result }
+{
+    if let Some(it) = holds_borrowed(seen, left.bytes(), comparison, right.bytes()) {
         return Ok(it);
     }
-    let left = value(alloc, seen, &test.left)?;
-    let right = value(alloc, seen, &test.right)?;
-    Ok(holds(test.comparison, left.bytes(), right.bytes()))
+    let left = value(alloc, seen, left)?;
+    let right = value(alloc, seen, right)?;
+    Ok(holds(comparison, left.bytes(), right.bytes()))
 }
 
 /// The same of words whose values are borrowed.
 #[tactic(auto, unfolding(crate::specs::Comparisons::test_holds))]
-fn holds_borrowed(seen: &Seen<'_>, test: &Test) -> Option<bool>
-    ensures { IfSome result (λ it. spec.test_holds (bound seen.now) test.now ≡ Ok it) }
-{
-    let left = borrowed(seen, test.left.bytes())?;
-    let right = borrowed(seen, test.right.bytes())?;
-    Some(holds(test.comparison, left, right))
-}
-
-/// Whether the comparison of an &IF holds, where the values of its words are borrowed.
-pub fn compared(seen: &Seen<'_>, left: &[u8], sign: &[u8], right: &[u8]) -> Option<bool>
-    ensures { IfSome result (λ it. compared (bound seen.now) left.now sign.now right.now ≡ Ok it) }
+fn holds_borrowed(
+    seen: &Seen<'_>,
+    left: &[u8],
+    comparison: Comparison,
+    right: &[u8],
+) -> Option<bool>
+    ensures { IfSome result (λ it. spec.test_holds (bound seen.now)
+        (record { left = left.now; comparison = comparison; right = right.now }) ≡ Ok it) }
 {
     let left = borrowed(seen, left)?;
-    let comparison = Comparison::read(sign)?;
     let right = borrowed(seen, right)?;
     Some(holds(comparison, left, right))
 }

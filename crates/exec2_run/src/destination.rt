@@ -7,6 +7,7 @@ use crate::values::{ended, expanded_words, joined, missing, text, whole};
 use crate::{Fault, Want};
 use cms_text::{Word, is_keyword};
 use exec2_parse::{Control, copied};
+use std::alloc::Global;
 
 /// Where the commands of a procedure go.
 #[derive(Drop)]
@@ -38,13 +39,7 @@ impl ExecState {
         ensures { Answers (spec.subcommanded self.now words.now) result }
     {
         let operands = expanded_words(self.alloc, &self.seen(), words)?;
-        let [word, others @ ..] = operands.words.as_slice() else {
-            return Err(missing(operands.is_cut));
-        };
-        whole(operands.is_cut)?;
-        let text = joined(self.alloc, &copied(self.alloc, others)?)?;
-        let word = Word::of(self.alloc, word.bytes())?;
-        Ok(Want::Sub(word, text))
+        sent_by(self.alloc, operands.words.as_slice(), operands.is_cut)
     }
 
     /// &PRESUME, alone, with &COMMAND, or with &SUBCOMMAND and a word.
@@ -80,11 +75,31 @@ impl ExecState {
         ensures { Answers (spec.extension_named self.now words.now) result }
     {
         let operands = expanded_words(self.alloc, &self.seen(), words)?;
-        let [word, others @ ..] = operands.words.as_slice() else {
-            return Err(missing(operands.is_cut));
-        };
-        ended(others, operands.is_cut)?;
-        let word = Word::of(self.alloc, word.bytes())?;
-        Ok(Destination::Extension(word))
+        extension_of(self.alloc, operands.words.as_slice(), operands.is_cut)
     }
+}
+
+/// The text that these words send to the extension that the first of them names.
+fn sent_by(alloc: Global, words: &[Word], is_cut: bool) -> Result<Want, Fault>
+    ensures { Answers (spec.subcommanded_by words.now is_cut) result }
+{
+    let [word, others @ ..] = words else {
+        return Err(missing(is_cut));
+    };
+    whole(is_cut)?;
+    let text = joined(alloc, &copied(alloc, others)?)?;
+    let word = Word::of(alloc, word.bytes())?;
+    Ok(Want::Sub(word, text))
+}
+
+/// The extension that the only one of these words names.
+fn extension_of(alloc: Global, words: &[Word], is_cut: bool) -> Result<Destination, Fault>
+    ensures { Answers (spec.extension_named_by words.now is_cut) result }
+{
+    let [word, others @ ..] = words else {
+        return Err(missing(is_cut));
+    };
+    ended(others, is_cut)?;
+    let word = Word::of(alloc, word.bytes())?;
+    Ok(Destination::Extension(word))
 }

@@ -10,7 +10,7 @@ ghost use Rattle.exec2_run.specs.Due.{at_place, place_of, words_due};
 ghost use Rattle.exec2_run.specs.Steps.{Takes};
 
 use crate::calls::{Calls, line_of_last};
-use crate::comparison::{Comparison, compared, holds};
+use crate::comparison::{Comparison, words_hold};
 use crate::destination::Destination;
 use crate::given::{AtStart, Seen, Standing, behind_name};
 use crate::loops::Loops;
@@ -538,16 +538,16 @@ impl ExecState {
         Ok(Fault::BadStatement)
     }
 
+    /// Whether the comparison of an &IF holds.
+    #[tactic(auto, unfolding(crate::specs::Comparisons::test_holds))]
     fn compare(&self, left: &Word, sign: &Word, right: &Word) -> Result<bool, Fault>
         ensures { Answers (spec.compared (seen self.now) left.now sign.now right.now) result }
     {
-        if let Some(it) = compared(&self.seen(), left.bytes(), sign.bytes(), right.bytes()) {
-            return Ok(it);
-        }
-        let left = value(self.alloc, &self.seen(), left)?;
-        let comparison = Comparison::read(sign.bytes()).ok_or(Fault::BadStatement)?;
-        let right = value(self.alloc, &self.seen(), right)?;
-        Ok(holds(comparison, left.bytes(), right.bytes()))
+        let Some(comparison) = Comparison::read(sign.bytes()) else {
+            value(self.alloc, &self.seen(), left)?;
+            return Err(Fault::BadStatement);
+        };
+        words_hold(self.alloc, &self.seen(), left, comparison, right)
     }
 
     /// Runs a statement of this kind that no &IF guards.
@@ -611,18 +611,24 @@ impl ExecState {
         ensures { Answers (spec.exited self.now words.now) result }
     {
         let operands = expanded_words(self.alloc, &self.seen(), words)?;
-        match operands.words.as_slice() {
-            [] => {
-                whole(operands.is_cut)?;
-                Ok(Want::Ended(0))
-            }
-            [code, others @ ..] => {
-                let code = exit_code(code.bytes())?;
-                ended(others, operands.is_cut)?;
-                Ok(Want::Ended(code))
-            }
-        }
+        let code = code_of(operands.words.as_slice(), operands.is_cut)?;
+        Ok(Want::Ended(code))
     }
+}
+
+/// The code that these words give; 0 without one.
+fn code_of(words: &[Word], is_cut: bool) -> Result<i32, Fault>
+    ensures { MatchResult result
+        (λ code. spec.exited_by words.now is_cut ≡ Ok (Want.Ended code))
+        (λ fault. spec.exited_by words.now is_cut ≡ Err fault) }
+{
+    let [code, others @ ..] = words else {
+        whole(is_cut)?;
+        return Ok(0);
+    };
+    let code = exit_code(code.bytes())?;
+    ended(others, is_cut)?;
+    Ok(code)
 }
 
 /// A procedure's code, -9999 to 99999.

@@ -103,11 +103,22 @@ impl ExecState {
             return self.place_named(label);
         }
         let operands = expanded_words(self.alloc, &self.seen(), words)?;
-        let [label, others @ ..] = operands.words.as_slice() else {
-            return Err(missing(operands.is_cut));
+        let place = self.place_in(operands.words.as_slice(), operands.is_cut)?;
+        Ok(place)
+    }
+
+    /// The same with the words expanded.
+    fn place_in(&self, words: &[Word], is_cut: bool) -> Result<u32, Fault>
+        ensures { MatchResult result
+            (λ place. spec.gone_by self.now words.now is_cut
+            ≡ Ok (record self.now { next = place }, Want.Next))
+            (λ fault. spec.gone_by self.now words.now is_cut ≡ Err fault) }
+    {
+        let [label, others @ ..] = words else {
+            return Err(missing(is_cut));
         };
         let place = self.place_named(label.bytes())?;
-        ended(others, operands.is_cut)?;
+        ended(others, is_cut)?;
         Ok(place)
     }
 
@@ -117,19 +128,25 @@ impl ExecState {
         ensures { Does (spec.skipped self.old words.now) self.old self.new result }
     {
         let operands = expanded_words(self.alloc, &self.seen(), words)?;
-        let place = match operands.words.as_slice() {
-            [] => {
-                whole(operands.is_cut)?;
-                self.place_after(1)?
-            }
-            [count, others @ ..] => {
-                let place = self.place_after(number(count.bytes()).ok_or(Fault::NotNumber)?)?;
-                ended(others, operands.is_cut)?;
-                place
-            }
-        };
-        self.next = place;
+        self.next = self.place_behind(operands.words.as_slice(), operands.is_cut)?;
         Ok(Want::Next)
+    }
+
+    /// The place to which &SKIP with these words goes.
+    fn place_behind(&self, words: &[Word], is_cut: bool) -> Result<u32, Fault>
+        ensures { MatchResult result
+            (λ place. spec.skipped_by self.now words.now is_cut
+            ≡ Ok (record self.now { next = place }, Want.Next))
+            (λ fault. spec.skipped_by self.now words.now is_cut ≡ Err fault) }
+    {
+        let [count, others @ ..] = words else {
+            whole(is_cut)?;
+            let place = self.place_after(1)?;
+            return Ok(place);
+        };
+        let place = self.place_after(number(count.bytes()).ok_or(Fault::NotNumber)?)?;
+        ended(others, is_cut)?;
+        Ok(place)
     }
 
     /// The place that so many lines lie before, or with a negative number the one so many lines above this line.

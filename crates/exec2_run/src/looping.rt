@@ -11,7 +11,7 @@ use crate::exec::ExecState;
 use crate::given::Seen;
 use crate::jumps::label_from;
 use crate::loops::{Loop, Loops, Passes, Test};
-use crate::values::{ended, expanded_words, missing, value};
+use crate::values::{ended, expanded_words, missing, no_words, value};
 use crate::words::ASTERISK;
 use crate::{Fault, Want};
 use cms_fields::Moment;
@@ -265,11 +265,17 @@ fn counted(alloc: Global, seen: &Seen<'_>, words: &[Word]) -> Result<Passes, Fau
     ensures { Answers (spec.counted (bound seen.now) words.now) result }
 {
     let operands = expanded_words(alloc, seen, words)?;
-    let [count, others @ ..] = operands.words.as_slice() else {
-        return Err(missing(operands.is_cut));
+    counted_by(operands.words.as_slice(), operands.is_cut)
+}
+
+fn counted_by(words: &[Word], is_cut: bool) -> Result<Passes, Fault>
+    ensures { result ≡ spec.counted_by words.now is_cut }
+{
+    let [count, others @ ..] = words else {
+        return Err(missing(is_cut));
     };
     let passes = count_of(count.bytes())?;
-    ended(others, operands.is_cut)?;
+    ended(others, is_cut)?;
     Ok(passes)
 }
 
@@ -293,8 +299,7 @@ fn test(alloc: Global, seen: &Seen<'_>, words: &[Word]) -> Result<Test, Fault>
         return Err(Fault::BadStatement);
     };
     let comparison = Comparison::read(sign.bytes()).ok_or(Fault::BadStatement)?;
-    let others = expanded_words(alloc, seen, others)?;
-    ended(others.words.as_slice(), others.is_cut)?;
+    no_words(alloc, seen, others)?;
     Ok(Test {
         left: Word::of(alloc, left.bytes())?,
         comparison,

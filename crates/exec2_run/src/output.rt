@@ -4,7 +4,7 @@ ghost use Rattle.exec2_run.specs.Faults.{Answers, Does};
 ghost use Rattle.exec2_run.specs.Outputs as spec;
 
 use crate::exec::ExecState;
-use crate::values::{ended, expanded_words, text};
+use crate::values::{no_words, text};
 use crate::{Fault, Side, Want};
 use cms_text::{Line, Lines, Word, first_word, is_keyword};
 
@@ -68,8 +68,7 @@ impl ExecState {
     pub fn no_words(&self, words: &[Word]) -> Result<(), Fault>
         ensures { Answers (spec.no_words self.now words.now) result }
     {
-        let operands = expanded_words(self.alloc, &self.seen(), words)?;
-        ended(operands.words.as_slice(), operands.is_cut)
+        no_words(self.alloc, &self.seen(), words)
     }
 
     /// The text that words make, as the only line.

@@ -78,6 +78,15 @@ pub fn arguments(alloc: Global, seen: &Seen<'_>, words: &[Word]) -> Result<Opera
     values(alloc, seen, words, true)
 }
 
+/// No word stands here that doesn't become nothing.
+pub fn no_words(alloc: Global, seen: &Seen<'_>, words: &[Word]) -> Result<(), Fault>
+    ensures { Answers (spec.ended (spec.operands (bound seen.now) words.now).words
+        (spec.operands (bound seen.now) words.now).is_cut) result }
+{
+    let operands = expanded_words(alloc, seen, words)?;
+    ended(operands.words.as_slice(), operands.is_cut)
+}
+
 /// Why a word is missing: it became too long, or it isn't there.
 pub fn missing(is_cut: bool) -> Fault
     ensures { result ≡ spec.missing is_cut }

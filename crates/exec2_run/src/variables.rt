@@ -4,7 +4,7 @@ ghost use Rattle.std.specs.Option.{option_copied};
 ghost use Rattle.std.specs.FinMap.{empty, get, insert, len, remove};
 ghost use Rattle.std.specs.List.{list_all};
 ghost use Rattle.cms_text.specs.Limits.{longest_text};
-ghost use Rattle.cms_text.specs.Numbers.{is_digit};
+ghost use Rattle.cms_text.specs.Numbers.{decimal_of, is_digit};
 ghost use Rattle.exec2_parse.specs.Variables.{value_of};
 ghost use Rattle.exec2_run.specs.Faults.{Answers, Does, Leads};
 ghost use Rattle.exec2_run.specs.Given as given;
@@ -271,10 +271,22 @@ pub fn numbered(alloc: Global, values: &[Word]) -> Result<Vars, AllocError>
 {
     let mut arguments = Vars::new(alloc);
     for (place, value) in values.iter().enumerate() {
-        let name = numeral(alloc, place + 1)?;
-        arguments.set(name, Word::of(alloc, value.bytes())?)?;
+        set_argument(alloc, &mut arguments, place + 1, value)?;
     }
     Ok(arguments)
+}
+
+/// Sets the argument of a number.
+fn set_argument(
+    alloc: Global,
+    arguments: &mut Vars,
+    number: usize,
+    value: &Word,
+) -> Result<(), AllocError>
+    ensures { OnOk result (arguments.new ≡ insert arguments.old (decimal_of number) value.now) }
+{
+    let name = numeral(alloc, number)?;
+    arguments.set(name, Word::of(alloc, value.bytes())?)
 }
 
 impl ExecState {
