@@ -1,8 +1,8 @@
 -- Commands that get arguments and subcommands.
-use Rattle.std.proofs.Common.{◌≡◌, ◌∙◌, ℕ, Bor, ◌+◌, ◌<◌, ◌≤◌, Bool, false, true, List, [], ◌∷◌, ◌++◌, length, get_or, map, take, ap, ap₂, refl, subst, sym}
-use Rattle.std.specs.declared.alloc.AllocError.{AllocError}
-use Rattle.std.specs.Prelude.{◌&&◌, not, IfOk, IsSomeAnd, Option, None, Some, Result, Ok}
-use Rattle.std.proofs.lemmas.List.{take_all}
+use Rattle.std.proofs.Common.{◌≡◌, ◌∙◌, ℕ, Bor, ◌+◌, ◌<◌, ◌≤◌, Bool, false, true, List, [], ◌∷◌, ◌++◌, length, get_or, map, take, ap, ap₂, arith, refl, subst, suc, sym, zero}
+use Rattle.std.specs.Prelude.{◌&&◌, not, IsSomeAnd, Option, None, Some}
+use Rattle.std.proofs.lemmas.Bool.{and_parts}
+use Rattle.std.proofs.lemmas.List.{take_all, take_more}
 use Rattle.clap.specs.Simple.{app_of_fields, on_top}
 use Rattle.clap.specs.Words.{AddsArg, AddsSubcommand, App, Rule, Text, app_of, new_app, rule_of, with_rule, with_subcommand}
 use Rattle.clap.specs.declared.builder.command.Command.TheViews.{out-Command}
@@ -11,8 +11,9 @@ use Rattle.clap.specs.declared.builder.arg.Arg.{Arg}
 use Rattle.clap.specs.declared.builder.command.Command.{Command}
 use Rattle.clap.specs.declared.builder.range.ValueRange.{ValueRange}
 use Rattle.mini_words.proofs.Each.{one_taken}
-use Rattle.mini_words.specs.Commands.{HasForm, rule_for, with_rules}
+use Rattle.mini_words.specs.Commands.{HasForm, are_plain, form_for, rule_for, with_forms, with_rules}
 use Rattle.mini_words.specs.declared.building.Argument.{Argument}
+use Rattle.mini_words.specs.declared.building.CommandForm.{CommandForm}
 
 pub arg_added : (old new : Command) (arg : Arg) (rule : Rule) (form : App) → AddsArg old arg new → arg.global ≡ false → rule_of arg ≡ rule
     → HasForm old form → HasForm new (with_rule form rule)
@@ -37,9 +38,6 @@ pub all_added : (new : Command) (form : App) (arguments : List Argument) (i : �
     → HasForm new (with_rules form (map rule_for (take i arguments))) → HasForm new (with_rules form (map rule_for arguments))
 all_added new form arguments i all has = subst (λ (xs : List Argument). HasForm new (with_rules form (map rule_for xs))) (take_all i arguments all) has
 
-pub has_form : (r : Result Command AllocError) (c : Command) (form : App) → r ≡ Ok c → IfOk r (λ o. HasForm o form) → HasForm c form
-has_form r c form is has = subst (λ (o : Result Command AllocError). IfOk o (λ x. HasForm x form)) is has
-
 -- of a plain command nothing is shared with others
 third : (groups external globals rest : Bool) → (groups && (not external && (not globals && rest))) ≡ true → globals ≡ false
 third true false false rest h = refl
@@ -52,6 +50,27 @@ pub command_added : (old other new : Command) (form below : App) → AddsSubcomm
 command_added old other new form below adds has under plain =
     let is : (app_of other).top.is_plain ≡ true = ap (λ (a : App). a.top.is_plain) under.app ∙ plain in
     record { app = adds.shape (third _ _ _ _ is) ∙ ap₂ with_subcommand has.app (ap (λ (a : App). a.top) under.app) }
+
+-- commands one behind another
+commands_join : (whole : App) (forms : List CommandForm) (form : CommandForm) → with_forms whole (forms ++ form ∷ []) ≡ with_subcommand (with_forms whole forms) (form_for form).top
+commands_join whole [] form = refl
+commands_join whole (first ∷ forms) form = commands_join (with_subcommand whole (form_for first).top) forms form
+
+pub one_command : (new : Command) (whole : App) (forms : List CommandForm) (i : ℕ) (d : CommandForm) → i < length forms
+    → HasForm new (with_subcommand (with_forms whole (take i forms)) (form_for (get_or forms i d)).top) → HasForm new (with_forms whole (take (i + 1) forms))
+one_command new whole forms i d inside has =
+    let more : with_forms whole (take (i + 1) forms) ≡ with_subcommand (with_forms whole (take i forms)) (form_for (get_or forms i d)).top =
+    ap (with_forms whole) (take_more forms i d inside) ∙ commands_join whole (take i forms) (get_or forms i d) in
+    subst (HasForm new) (sym more) has
+
+pub all_commands : (new : Command) (whole : App) (forms : List CommandForm) (i : ℕ) → length forms ≤ i
+    → HasForm new (with_forms whole (take i forms)) → HasForm new (with_forms whole forms)
+all_commands new whole forms i all has = subst (λ (xs : List CommandForm). HasForm new (with_forms whole xs)) (take_all i forms all) has
+
+pub plain_at : (forms : List CommandForm) (i : ℕ) (d : CommandForm) → i < length forms → are_plain forms ≡ true → (form_for (get_or forms i d)).top.is_plain ≡ true
+plain_at [] i d inside plain = absurd (omega arith)
+plain_at (form ∷ forms) zero d inside plain = (and_parts (form_for form).top.is_plain (are_plain forms) plain).0
+plain_at (form ∷ forms) (suc i) d inside plain = plain_at forms i d (omega arith) (and_parts (form_for form).top.is_plain (are_plain forms) plain).1
 
 -- the settings of a command
 pub has_version : (old new : Command) (version : Bor Text) → out-Command new ≡ record (out-Command old) { version = Some version }

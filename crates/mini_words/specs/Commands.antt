@@ -1,5 +1,5 @@
 -- The commands' forms, as clap reads them.
-use Rattle.std.specs.Prelude.{◌≡◌, ℕ, Bool, false, true, List, [], ◌∷◌, Option, Some, codes, unwrap_or}
+use Rattle.std.specs.Prelude.{◌≡◌, ℕ, Bool, false, true, List, [], ◌∷◌, ◌&&◌, map, Option, Some, codes, unwrap_or}
 use Rattle.std.specs.Option.{option_map_or}
 use Rattle.std.specs.Str.{bytes_eq}
 use Rattle.clap.specs.Walk.{is_empty}
@@ -9,6 +9,7 @@ use Rattle.clap.specs.declared.builder.action.ArgAction.TheVariants.{SetTrue}
 use Rattle.clap.specs.declared.builder.command.Command.{Command}
 use Rattle.clap.specs.declared.parser.matches.ArgMatches.{ArgMatches}
 use Rattle.mini_words.specs.declared.building.Argument.{Argument}
+use Rattle.mini_words.specs.declared.building.CommandForm.{CommandForm}
 use Rattle.mini_words.specs.declared.building.Kind.{Kind}
 use Rattle.mini_words.specs.declared.building.Kind.TheVariants.{Value, Needed, Flag, One, Many, Any}
 
@@ -56,6 +57,20 @@ rule_for argument = rule_by argument.id.now argument.kind
 abbrev pub with_rules : App → List Rule → App
 with_rules form [] = form
 with_rules form (rule ∷ rules) = with_rules (with_rule form rule) rules
+
+-- the form of a command by its name and its arguments
+abbrev pub form_for : CommandForm → App
+form_for form = with_rules (new_app form.name.now) (map rule_for form.arguments.now)
+
+-- commands share no argument
+abbrev pub are_plain : List CommandForm → Bool
+are_plain [] = true
+are_plain (form ∷ forms) = (form_for form).top.is_plain && are_plain forms
+
+-- a form with commands below it
+abbrev pub with_forms : App → List CommandForm → App
+with_forms whole [] = whole
+with_forms whole (form ∷ forms) = with_forms (with_subcommand whole (form_for form).top) forms
 
 -- list [-l] [-b SIZE] IMAGE [NAME ..]
 unfoldable pub list_form : App

@@ -10,6 +10,7 @@ use Rattle.mini_words.specs.Words.{◌>>=◌, blocks_of, digit_of, form_of, labe
 use Rattle.mini_words.specs.declared.fault.WordFault.{WordFault}
 use Rattle.mini_words.specs.declared.fault.WordFault.TheVariants.{Block, Name as BadName, NoCommand, NoName, OneFile, SaysNothing, TwoTargets}
 use Rattle.mini_words.specs.declared.names.NamePattern.{NamePattern}
+use Rattle.mini_words.specs.declared.reading.Manner.{Manner}
 use Rattle.mini_words.specs.declared.request.Image.{Image}
 use Rattle.mini_words.specs.declared.request.Request.{Request}
 use Rattle.mini_words.specs.declared.request.Request.TheVariants.{List as AskList, Info, Get, Put, Erase, Rename, Make, Check, Dump}
@@ -28,9 +29,15 @@ each_of read fault number (word ∷ words) = do
 unfoldable pub names_of : List Row → Result (List NamePattern) WordFault
 names_of rows = each_of name_pattern_of BadName 1 (values_in (codes "NAME") rows)
 
--- the image, with its block size
+-- the image, with this block size
 abbrev pub image_of : List Row → Option ℕ → Image
 image_of rows size = record { name = text_in (codes "IMAGE") rows; size = size }
+
+-- the image, with the block size that was said
+unfoldable pub sized_image : List Row → Result Image WordFault
+sized_image rows = do
+  size ← size_of rows
+  Ok (image_of rows size)
 
 -- nothing, or the refusal where this doesn't hold
 abbrev pub wanted : Bool → WordFault → Result (Unit {0}) WordFault
@@ -40,15 +47,15 @@ wanted false fault = Err fault
 -- list [-l] [-b SIZE] IMAGE [NAME ..]
 unfoldable pub list_of : List Row → Result Request WordFault
 list_of rows = do
-  size ← size_of rows
+  image ← sized_image rows
   names ← names_of rows
-  Ok (AskList (image_of rows size) (is_set (codes "LONG") rows) names)
+  Ok (AskList image (is_set (codes "LONG") rows) names)
 
 -- info [-b SIZE] IMAGE
 unfoldable pub info_of : List Row → Result Request WordFault
 info_of rows = do
-  size ← size_of rows
-  Ok (Info (image_of rows size))
+  image ← sized_image rows
+  Ok (Info image)
 
 -- where files go, by -o FILE and -d DIR
 abbrev pub target_in : Option Text → Option Text → Result Target WordFault
@@ -67,16 +74,22 @@ may_say says Output = not says
 may_say says (File file) = true
 may_say says (Folder folder) = true
 
+-- where files go, where -v says something
+unfoldable pub told_target : List Row → Result Target WordFault
+told_target rows = do
+  target ← target_of rows
+  one ← wanted (may_say (is_set (codes "SAY") rows) target) SaysNothing
+  Ok target
+
 -- get [-b SIZE] [-f FORM] [-r] [-v] [-o FILE | -d DIR] IMAGE NAME ..
 unfoldable pub get_of : List Row → Result Request WordFault
 get_of rows = do
-  size ← size_of rows
+  image ← sized_image rows
   form ← form_of rows
   names ← names_of rows
-  target ← target_of rows
-  one ← wanted (may_say (is_set (codes "SAY") rows) target) SaysNothing
+  target ← told_target rows
   Ok (Get (record {
-    image = image_of rows size;
+    image = image;
     form = form;
     replaces = is_set (codes "REPLACE") rows;
     says = is_set (codes "SAY") rows;
@@ -95,20 +108,26 @@ files_of named files =
     else if not named && has_input files then Err NoName
     else Ok files
 
--- put [-b SIZE] [-f FORM] [-L N] [-m DIGIT] [-n NAME] [-r] [-v] [-z ZONE] IMAGE FILE ..
-unfoldable pub put_of : List Row → Result Request WordFault
-put_of rows = do
-  size ← size_of rows
+-- how host files become files of an image
+unfoldable pub manner_of : List Row → Result Manner WordFault
+manner_of rows = do
   layout ← layout_of rows
   number ← digit_of rows
   name ← one_name_of rows
+  Ok (record { layout = layout; number = number; name = name })
+
+-- put [-b SIZE] [-f FORM] [-L N] [-m DIGIT] [-n NAME] [-r] [-v] [-z ZONE] IMAGE FILE ..
+unfoldable pub put_of : List Row → Result Request WordFault
+put_of rows = do
+  image ← sized_image rows
+  manner ← manner_of rows
   offset ← zone_of rows
-  files ← files_of (is_some name) (values_in (codes "FILE") rows)
+  files ← files_of (is_some manner.name) (values_in (codes "FILE") rows)
   Ok (Put (record {
-    image = image_of rows size;
-    layout = layout;
-    number = number;
-    name = name;
+    image = image;
+    layout = manner.layout;
+    number = manner.number;
+    name = manner.name;
     replaces = is_set (codes "REPLACE") rows;
     says = is_set (codes "SAY") rows;
     offset = offset;
@@ -118,10 +137,10 @@ put_of rows = do
 -- erase [-b SIZE] [-v] [-z ZONE] IMAGE NAME ..
 unfoldable pub erase_of : List Row → Result Request WordFault
 erase_of rows = do
-  size ← size_of rows
+  image ← sized_image rows
   offset ← zone_of rows
   names ← names_of rows
-  Ok (Erase (image_of rows size) (is_set (codes "SAY") rows) offset names)
+  Ok (Erase image (is_set (codes "SAY") rows) offset names)
 
 -- rename [-b SIZE] [-v] [-z ZONE] IMAGE NAME NEW
 unfoldable pub rename_of : List Row → Result Request WordFault
@@ -150,9 +169,9 @@ checks_of rows = do
 -- dump [-b SIZE] IMAGE [BLOCK ..]
 unfoldable pub dump_of : List Row → Result Request WordFault
 dump_of rows = do
-  size ← size_of rows
+  image ← sized_image rows
   blocks ← each_of (number_of 1 1048576) Block 1 (values_in (codes "BLOCK") rows)
-  Ok (Dump (image_of rows size) blocks)
+  Ok (Dump image blocks)
 
 -- a command but check, and what clap found of its words
 unfoldable pub asked_by : Text → List Row → Result Request WordFault

@@ -1,7 +1,7 @@
-// Commands that get their arguments from a table.
+// Commands that are built from tables.
 ghost use Rattle.std.specs.Prelude.{◌≡◌, IfOk, map, false, true};
 ghost use Rattle.clap.specs.Words.{App, new_app, rule_of, with_rule, with_subcommand};
-ghost use Rattle.mini_words.specs.Commands.{HasForm, rule_for, with_rules};
+ghost use Rattle.mini_words.specs.Commands.{HasForm, are_plain, form_for, rule_for, with_forms, with_rules};
 
 use clap::{Arg, ArgAction, Command};
 use std::alloc::{AllocError, Global};
@@ -31,23 +31,24 @@ pub struct Argument<'a> {
     pub help: &'a str,
 }
 
-/// A command with no arguments, and what help says of it.
-pub fn new_command<'a>(alloc: Global, name: &'a str, about: &'a str) -> Command<'a>
-    ensures { HasForm result (new_app name.entry.now) }
-{
-    Command::new(alloc, name).about(about)
+/// A command: its name, what help says of it, a text behind its arguments, and these.
+#[derive(Clone, Copy)]
+pub struct CommandForm<'a> {
+    pub name: &'a str,
+    pub about: &'a str,
+    pub behind: Option<&'a str>,
+    pub arguments: &'a [Argument<'a>],
 }
 
-/// The same with a text behind its arguments.
-pub fn new_command_with<'a>(
-    alloc: Global,
-    name: &'a str,
-    about: &'a str,
-    behind: &'a str,
-) -> Command<'a>
-    ensures { HasForm result (new_app name.entry.now) }
+/// A command without its arguments.
+pub fn new_command<'a>(alloc: Global, form: &CommandForm<'a>) -> Command<'a>
+    ensures { HasForm result (new_app form.now.name.now) }
 {
-    Command::new(alloc, name).about(about).after_help(behind)
+    let command = Command::new(alloc, form.name).about(form.about);
+    match form.behind {
+        Some(text) => command.after_help(text),
+        None => command,
+    }
 }
 
 // An argument as clap has it.
@@ -78,8 +79,8 @@ fn with_argument<'a>(
     command.arg(arg_of(alloc, argument))
 }
 
-/// Adds arguments, one after another.
-pub fn with_arguments<'a>(
+// Adds arguments, one after another.
+fn with_arguments<'a>(
     alloc: Global,
     mut command: Command<'a>,
     arguments: &[Argument<'a>],
@@ -93,14 +94,37 @@ pub fn with_arguments<'a>(
     Ok(command)
 }
 
-/// Adds a subcommand, whose arguments are its own, if there was memory for it.
-pub fn with_command<'a>(
-    command: Command<'a>,
-    other: Result<Command<'a>, AllocError>,
-) -> Result<Command<'a>, AllocError>
-    ensures { IfOk result (λ c. (form below : App) → HasForm command.entry form
-        → IfOk other.entry (λ o. HasForm o below) → below.top.is_plain ≡ true
-        → HasForm c (with_subcommand form below.top)) }
+// A command with its arguments.
+fn command_of<'a>(alloc: Global, form: &CommandForm<'a>) -> Result<Command<'a>, AllocError>
+    ensures { IfOk result (λ c. HasForm c (form_for form.now)) }
 {
-    command.subcommand(other?)
+    with_arguments(alloc, new_command(alloc, form), form.arguments)
+}
+
+// Adds a subcommand, whose arguments are its own.
+fn with_command<'a>(
+    alloc: Global,
+    command: Command<'a>,
+    form: &CommandForm<'a>,
+) -> Result<Command<'a>, AllocError>
+    ensures { IfOk result (λ c. (whole : App) → HasForm command.entry whole
+        → (form_for form.now).top.is_plain ≡ true
+        → HasForm c (with_subcommand whole (form_for form.now).top)) }
+{
+    command.subcommand(command_of(alloc, form)?)
+}
+
+/// Adds subcommands, one after another.
+pub fn with_commands<'a>(
+    alloc: Global,
+    mut command: Command<'a>,
+    forms: &[CommandForm<'a>],
+) -> Result<Command<'a>, AllocError>
+    ensures { IfOk result (λ c. (whole : App) → HasForm command.entry whole
+        → are_plain forms.now ≡ true → HasForm c (with_forms whole forms.now)) }
+{
+    for form in forms {
+        command = with_command(alloc, command, form)?;
+    }
+    Ok(command)
 }

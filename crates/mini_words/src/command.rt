@@ -2,11 +2,9 @@
 ghost use Rattle.std.specs.Prelude.{◌≡◌, ◌⊎◌, IfOk, IfErr, map, false, true};
 ghost use Rattle.clap.specs.Words.{found_of, kind_of, rows_of, subcommand_rows_of};
 ghost use Rattle.clap.specs.declared.error.kind.ErrorKind.TheVariants.{OutOfMemory};
-ghost use Rattle.mini_words.specs.Commands.{HasForm, are_taken, check_form, command_in, dump_form, erase_form, get_form, info_form, list_form, make_form, minidisk, put_form, rename_form, top_form};
+ghost use Rattle.mini_words.specs.Commands.{HasForm, are_taken, command_in, minidisk, top_form};
 
-use crate::building::{
-    Argument, Kind, new_command, new_command_with, with_arguments, with_command,
-};
+use crate::building::{Argument, CommandForm, Kind, new_command, with_commands};
 use clap::{ArgMatches, Command, Error};
 use std::alloc::{AllocError, Global};
 
@@ -218,78 +216,74 @@ const DUMP: [Argument<'static>; 3] = [
     },
 ];
 
-fn list_command<'a>(alloc: Global) -> Result<Command<'a>, AllocError>
-    ensures { IfOk result (λ c. HasForm c list_form) }
-{
-    let list = new_command(alloc, "list", "List the files of an image");
-    with_arguments(alloc, list, &LIST)
-}
+const COMMANDS: [CommandForm<'static>; 9] = [
+    CommandForm {
+        name: "list",
+        about: "List the files of an image",
+        behind: None,
+        arguments: &LIST,
+    },
+    CommandForm {
+        name: "info",
+        about: "Tell the label, the blocks and the files",
+        behind: None,
+        arguments: &INFO,
+    },
+    CommandForm {
+        name: "get",
+        about: "Copy files out of an image",
+        behind: Some(FORMS),
+        arguments: &GET,
+    },
+    CommandForm {
+        name: "put",
+        about: "Copy host files into an image",
+        behind: Some(FORMS),
+        arguments: &PUT,
+    },
+    CommandForm {
+        name: "erase",
+        about: "Erase files of an image",
+        behind: None,
+        arguments: &ERASE,
+    },
+    CommandForm {
+        name: "rename",
+        about: "Give a file of an image another name",
+        behind: None,
+        arguments: &RENAME,
+    },
+    CommandForm {
+        name: "make",
+        about: "Make an image with an empty volume",
+        behind: None,
+        arguments: &MAKE,
+    },
+    CommandForm {
+        name: "check",
+        about: "Say whether images are sound",
+        behind: None,
+        arguments: &CHECK,
+    },
+    CommandForm {
+        name: "dump",
+        about: "Show the label, the directory and blocks as they stand",
+        behind: None,
+        arguments: &DUMP,
+    },
+];
 
-fn info_command<'a>(alloc: Global) -> Result<Command<'a>, AllocError>
-    ensures { IfOk result (λ c. HasForm c info_form) }
-{
-    let info = new_command(alloc, "info", "Tell the label, the blocks and the files");
-    with_arguments(alloc, info, &INFO)
-}
-
-fn get_command<'a>(alloc: Global) -> Result<Command<'a>, AllocError>
-    ensures { IfOk result (λ c. HasForm c get_form) }
-{
-    let get = new_command_with(alloc, "get", "Copy files out of an image", FORMS);
-    with_arguments(alloc, get, &GET)
-}
-
-fn put_command<'a>(alloc: Global) -> Result<Command<'a>, AllocError>
-    ensures { IfOk result (λ c. HasForm c put_form) }
-{
-    let put = new_command_with(alloc, "put", "Copy host files into an image", FORMS);
-    with_arguments(alloc, put, &PUT)
-}
-
-fn erase_command<'a>(alloc: Global) -> Result<Command<'a>, AllocError>
-    ensures { IfOk result (λ c. HasForm c erase_form) }
-{
-    let erase = new_command(alloc, "erase", "Erase files of an image");
-    with_arguments(alloc, erase, &ERASE)
-}
-
-fn rename_command<'a>(alloc: Global) -> Result<Command<'a>, AllocError>
-    ensures { IfOk result (λ c. HasForm c rename_form) }
-{
-    let rename = new_command(alloc, "rename", "Give a file of an image another name");
-    with_arguments(alloc, rename, &RENAME)
-}
-
-fn make_command<'a>(alloc: Global) -> Result<Command<'a>, AllocError>
-    ensures { IfOk result (λ c. HasForm c make_form) }
-{
-    let make = new_command(alloc, "make", "Make an image with an empty volume");
-    with_arguments(alloc, make, &MAKE)
-}
-
-fn check_command<'a>(alloc: Global) -> Result<Command<'a>, AllocError>
-    ensures { IfOk result (λ c. HasForm c check_form) }
-{
-    let check = new_command(alloc, "check", "Say whether images are sound");
-    with_arguments(alloc, check, &CHECK)
-}
-
-fn dump_command<'a>(alloc: Global) -> Result<Command<'a>, AllocError>
-    ensures { IfOk result (λ c. HasForm c dump_form) }
-{
-    let dump = new_command(
-        alloc,
-        "dump",
-        "Show the label, the directory and blocks as they stand",
-    );
-    with_arguments(alloc, dump, &DUMP)
-}
+const TOP: CommandForm<'static> = CommandForm {
+    name: "minidisk",
+    about: "Look into images of CMS minidisks, and copy files in and out",
+    behind: Some(EXAMPLES),
+    arguments: &[],
+};
 
 fn top_command<'a>(alloc: Global) -> Command<'a>
     ensures { HasForm result top_form }
 {
-    let about = "Look into images of CMS minidisks, and copy files in and out";
-    new_command_with(alloc, "minidisk", about, EXAMPLES)
+    new_command(alloc, &TOP)
         .version("0.1.0")
         .subcommand_required(true)
         .disable_help_subcommand(true)
@@ -298,15 +292,7 @@ fn top_command<'a>(alloc: Global) -> Command<'a>
 fn minidisk<'a>(alloc: Global) -> Result<Command<'a>, AllocError>
     ensures { IfOk result (λ c. HasForm c minidisk) }
 {
-    let top = with_command(top_command(alloc), list_command(alloc))?;
-    let top = with_command(top, info_command(alloc))?;
-    let top = with_command(top, get_command(alloc))?;
-    let top = with_command(top, put_command(alloc))?;
-    let top = with_command(top, erase_command(alloc))?;
-    let top = with_command(top, rename_command(alloc))?;
-    let top = with_command(top, make_command(alloc))?;
-    let top = with_command(top, check_command(alloc))?;
-    with_command(top, dump_command(alloc))
+    with_commands(alloc, top_command(alloc), &COMMANDS)
 }
 
 /// What clap finds in the program's words, its name first: a command with its words. The error is for [`Error::print`], which

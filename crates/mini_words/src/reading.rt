@@ -1,12 +1,14 @@
 // What the words of each command ask for.
-ghost use Rattle.std.specs.Prelude.{◌≡◌, ◌&&◌, not, nat_lt, length, map, codes, All, IfOk};
+ghost use Rattle.std.specs.Prelude.{◌≡◌, ◌≤◌, ◌&&◌, not, nat_lt, length, map, codes, All, IfOk};
 ghost use Rattle.std.specs.List.{list_any};
 ghost use Rattle.std.specs.Str.{bytes_eq};
+ghost use Rattle.mini_forms.specs.Readers.{IsSize};
+ghost use Rattle.mini_forms.specs.Reading.{size_in, start_of};
 ghost use Rattle.mini_words.specs.Commands.{rows_in, values_in};
 ghost use Rattle.mini_words.specs.Ranges.{IsWithin};
 ghost use Rattle.mini_words.specs.Readings.{IsAnswer, IsReading};
 ghost use Rattle.mini_words.specs.Requests.{all_asked_by, asked_by, checks_of, dump_of, erase_of, files_of, get_of, has_input, image_of};
-ghost use Rattle.mini_words.specs.Requests.{info_of, list_of, make_of, may_say, names_of, put_of, rename_of, target_of, wanted};
+ghost use Rattle.mini_words.specs.Requests.{info_of, list_of, make_of, manner_of, may_say, names_of, put_of, rename_of, sized_image, target_of, told_target, wanted};
 ghost use Rattle.mini_words.specs.declared.fault.WordFault.TheVariants.{SaysNothing};
 ghost use Rattle.mini_words.specs.declared.request.Request.TheVariants.{Check};
 
@@ -21,11 +23,13 @@ use crate::values::{
 use crate::{Refused, WordFault};
 use clap::ArgMatches;
 use cms_journal::BlockSize;
+use cms_names::Name;
 use cms_text::Series;
 use cms_world::{Argv, ImageName};
+use mini_forms::Layout;
 use std::alloc::{AllocError, Global};
 
-// The image, with its block size.
+// The image, with this block size.
 fn image(
     alloc: Global,
     matches: &ArgMatches<'_>,
@@ -37,6 +41,15 @@ fn image(
         name: ImageName::of(alloc, text(matches, "IMAGE"))?,
         size,
     })
+}
+
+// The image, with the block size that was said.
+#[tactic(auto, unfolding(crate::specs::Requests::sized_image))]
+fn sized_image(alloc: Global, matches: &ArgMatches<'_>) -> Result<Image, WordFault>
+    ensures { IsAnswer result (sized_image (rows_in matches.now)) }
+{
+    let size = size(matches)?;
+    Ok(image(alloc, matches, size)?)
 }
 
 #[tactic(auto, unfolding(crate::specs::Requests::names_of))]
@@ -51,10 +64,10 @@ fn list(alloc: Global, matches: &ArgMatches<'_>) -> Result<Request, WordFault>
     ensures answer { IsAnswer result (list_of (rows_in matches.now)) }
     ensures within { IfOk result IsWithin }
 {
-    let size = size(matches)?;
+    let image = sized_image(alloc, matches)?;
     let names = names(alloc, matches)?;
     Ok(Request::List {
-        image: image(alloc, matches, size)?,
+        image,
         long: is_set(matches, "LONG"),
         names,
     })
@@ -65,8 +78,8 @@ fn info(alloc: Global, matches: &ArgMatches<'_>) -> Result<Request, WordFault>
     ensures answer { IsAnswer result (info_of (rows_in matches.now)) }
     ensures within { IfOk result IsWithin }
 {
-    let size = size(matches)?;
-    Ok(Request::Info(image(alloc, matches, size)?))
+    let image = sized_image(alloc, matches)?;
+    Ok(Request::Info(image))
 }
 
 // Where files go.
@@ -92,22 +105,30 @@ fn check_saying(says: bool, target: &Target) -> Result<(), WordFault>
     }
 }
 
+// Where files go, where that may be.
+#[tactic(auto, unfolding(crate::specs::Requests::told_target))]
+fn told_target(alloc: Global, matches: &ArgMatches<'_>) -> Result<Target, WordFault>
+    ensures { IsAnswer result (told_target (rows_in matches.now)) }
+{
+    let target = target(alloc, matches)?;
+    check_saying(is_set(matches, "SAY"), &target)?;
+    Ok(target)
+}
+
 #[tactic(auto, unfolding(crate::specs::Requests::get_of))]
 fn get(alloc: Global, matches: &ArgMatches<'_>) -> Result<Request, WordFault>
     ensures answer { IsAnswer result (get_of (rows_in matches.now)) }
     ensures within { IfOk result IsWithin }
 {
-    let size = size(matches)?;
+    let image = sized_image(alloc, matches)?;
     let form = form(matches)?;
     let names = names(alloc, matches)?;
-    let target = target(alloc, matches)?;
-    let says = is_set(matches, "SAY");
-    check_saying(says, &target)?;
+    let target = told_target(alloc, matches)?;
     Ok(Request::Get(Get {
-        image: image(alloc, matches, size)?,
+        image,
         form,
         replaces: is_set(matches, "REPLACE"),
-        says,
+        says: is_set(matches, "SAY"),
         target,
         names,
     }))
@@ -149,22 +170,44 @@ fn files(alloc: Global, words: &[&str], named: bool) -> Result<Series<ImageName>
     Ok(host_names(alloc, words)?)
 }
 
+// How host files become files of an image.
+#[derive(Clone, Copy)]
+struct Manner {
+    layout: Layout,
+    number: u8,
+    name: Option<Name>,
+}
+
+#[tactic(auto, unfolding(crate::specs::Requests::manner_of))]
+fn put_manner(matches: &ArgMatches<'_>) -> Result<Manner, WordFault>
+    ensures value { result ≡ manner_of (rows_in matches.now) }
+    ensures number { IfOk result (λ manner. manner.number ≤ 6) }
+    ensures size { IfOk result (λ manner. IsSize (size_in (start_of manner.layout))) }
+{
+    let layout = layout(matches)?;
+    let number = mode_number(matches)?;
+    let name = one_name(matches)?;
+    Ok(Manner {
+        layout,
+        number,
+        name,
+    })
+}
+
 #[tactic(auto, unfolding(crate::specs::Requests::put_of))]
 fn put(alloc: Global, matches: &ArgMatches<'_>) -> Result<Request, WordFault>
     ensures answer { IsAnswer result (put_of (rows_in matches.now)) }
     ensures within { IfOk result IsWithin }
 {
-    let size = size(matches)?;
-    let layout = layout(matches)?;
-    let number = mode_number(matches)?;
-    let name = one_name(matches)?;
+    let image = sized_image(alloc, matches)?;
+    let manner = put_manner(matches)?;
     let offset = zone(matches)?;
-    let files = files(alloc, texts(matches, "FILE"), name.is_some())?;
+    let files = files(alloc, texts(matches, "FILE"), manner.name.is_some())?;
     Ok(Request::Put(Put {
-        image: image(alloc, matches, size)?,
-        layout,
-        number,
-        name,
+        image,
+        layout: manner.layout,
+        number: manner.number,
+        name: manner.name,
         replaces: is_set(matches, "REPLACE"),
         says: is_set(matches, "SAY"),
         offset,
@@ -177,11 +220,11 @@ fn erase(alloc: Global, matches: &ArgMatches<'_>) -> Result<Request, WordFault>
     ensures answer { IsAnswer result (erase_of (rows_in matches.now)) }
     ensures within { IfOk result IsWithin }
 {
-    let size = size(matches)?;
+    let image = sized_image(alloc, matches)?;
     let offset = zone(matches)?;
     let names = names(alloc, matches)?;
     Ok(Request::Erase {
-        image: image(alloc, matches, size)?,
+        image,
         says: is_set(matches, "SAY"),
         offset,
         names,
@@ -252,12 +295,9 @@ fn dump(alloc: Global, matches: &ArgMatches<'_>) -> Result<Request, WordFault>
     ensures answer { IsAnswer result (dump_of (rows_in matches.now)) }
     ensures within { IfOk result IsWithin }
 {
-    let size = size(matches)?;
+    let image = sized_image(alloc, matches)?;
     let blocks = block_numbers(alloc, texts(matches, "BLOCK"))?;
-    Ok(Request::Dump {
-        image: image(alloc, matches, size)?,
-        blocks,
-    })
+    Ok(Request::Dump { image, blocks })
 }
 
 // What a command of this name asks for, if it isn't `check`.

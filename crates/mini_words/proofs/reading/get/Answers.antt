@@ -3,26 +3,22 @@ use Rattle.mini_words.specs.Requests.{get_of}
 use Rattle.mini_words.proofs.Answers.{answer_stops, exact_stops, said_so}
 use Rattle.mini_words.proofs.reading.get.Goals as goal
 
-pub returns-in_err-size-clause-answer : goal.returns-in_err-size-clause-answer
+pub returns-in_err-image-clause-answer : goal.returns-in_err-image-clause-answer
 unfolding get_of
-returns-in_err-size-clause-answer c = exact_stops _ _ _ c.from_residual.ensures.1 (rw (← c.in_err-size.ensures) refl)
+returns-in_err-image-clause-answer c = answer_stops _ _ _ _ c.from_residual.ensures.1 c.in_err-image.ensures (λ is. rw is refl)
 
 pub returns-in_err-form-clause-answer : goal.returns-in_err-form-clause-answer
 unfolding get_of
-returns-in_err-form-clause-answer c = exact_stops _ _ _ c.from_residual-in_err-form.ensures.1 (rw (← c.in_ok-size.ensures, ← c.in_err-form.ensures) refl)
+returns-in_err-form-clause-answer c = exact_stops _ _ _ c.from_residual-in_err-form.ensures.1 (rw (said_so _ _ c.in_ok-image.ensures, ← c.in_err-form.ensures) refl)
 
 pub returns-in_err-names-clause-answer : goal.returns-in_err-names-clause-answer
 unfolding get_of
-returns-in_err-names-clause-answer c = answer_stops _ _ _ _ c.from_residual-in_err-names.ensures.1 c.in_err-names.ensures (λ is. rw (← c.in_ok-size.ensures, ← c.in_ok-form.ensures, is) refl)
+returns-in_err-names-clause-answer c = answer_stops _ _ _ _ c.from_residual-in_err-names.ensures.1 c.in_err-names.ensures (λ is. rw (said_so _ _ c.in_ok-image.ensures, ← c.in_ok-form.ensures, is) refl)
 
 pub returns-in_err-target-clause-answer : goal.returns-in_err-target-clause-answer
 unfolding get_of
-returns-in_err-target-clause-answer c = answer_stops _ _ _ _ c.from_residual-in_err-target.ensures.1 c.in_err-target.ensures (λ is. rw (← c.in_ok-size.ensures, ← c.in_ok-form.ensures, said_so _ _ c.in_ok-names.ensures, is) refl)
-
-pub returns-in_err-check_saying-clause-answer : goal.returns-in_err-check_saying-clause-answer
-unfolding get_of
-returns-in_err-check_saying-clause-answer c = exact_stops _ _ _ c.from_residual-in_err-check_saying.ensures.1 (rw (← c.in_ok-size.ensures, ← c.in_ok-form.ensures, said_so _ _ c.in_ok-names.ensures, said_so _ _ c.in_ok-target.ensures, ← c.is_set-says.ensures, ← c.in_err-check_saying.ensures) refl)
+returns-in_err-target-clause-answer c = answer_stops _ _ _ _ c.from_residual-in_err-target.ensures.1 c.in_err-target.ensures (λ is. rw (said_so _ _ c.in_ok-image.ensures, ← c.in_ok-form.ensures, said_so _ _ c.in_ok-names.ensures, is) refl)
 
 pub returns-clause-answer : goal.returns-clause-answer
 unfolding get_of
-returns-clause-answer c = inl (rw (← c.in_ok-size.ensures, ← c.in_ok-form.ensures, said_so _ _ c.in_ok-names.ensures, said_so _ _ c.in_ok-target.ensures, ← c.is_set-says.ensures, ← c.in_ok-check_saying.ensures, c.in_ok-image.ensures, c.is_set.ensures) refl)
+returns-clause-answer c = inl (rw (said_so _ _ c.in_ok-image.ensures, ← c.in_ok-form.ensures, said_so _ _ c.in_ok-names.ensures, said_so _ _ c.in_ok-target.ensures, c.is_set.ensures, c.is_set-2.ensures) refl)

@@ -1,12 +1,12 @@
 use Rattle.std.proofs.Common.{inl, refl}
 use Rattle.mini_words.specs.Requests.{info_of}
-use Rattle.mini_words.proofs.Answers.{exact_stops}
+use Rattle.mini_words.proofs.Answers.{answer_stops, said_so}
 use Rattle.mini_words.proofs.reading.info.Goals as goal
 
-pub returns-in_err-size-clause-answer : goal.returns-in_err-size-clause-answer
+pub returns-in_err-image-clause-answer : goal.returns-in_err-image-clause-answer
 unfolding info_of
-returns-in_err-size-clause-answer c = exact_stops _ _ _ c.from_residual.ensures.1 (rw (← c.in_err-size.ensures) refl)
+returns-in_err-image-clause-answer c = answer_stops _ _ _ _ c.from_residual.ensures.1 c.in_err-image.ensures (λ is. rw is refl)
 
 pub returns-clause-answer : goal.returns-clause-answer
 unfolding info_of
-returns-clause-answer c = inl (rw (← c.in_ok-size.ensures, c.in_ok-image.ensures) refl)
+returns-clause-answer c = inl (rw (said_so _ _ c.in_ok-image.ensures) refl)

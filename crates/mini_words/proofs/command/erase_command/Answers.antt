@@ -1,7 +1,0 @@
-use Rattle.std.proofs.lemmas.Result.{IfOk-weaker}
-use Rattle.mini_words.specs.Commands.{erase_form}
-use Rattle.mini_words.proofs.command.erase_command.Goals as goal
-
-pub returns : goal.returns
-unfolding erase_form
-returns c = IfOk-weaker c.with_arguments.result _ _ (λ whole has. has _ c.new_command-erase.ensures) c.with_arguments.ensures
