@@ -167,10 +167,11 @@ impl<R: Files<File = File> + io::Input + Eprint + Drop> HostFiles<R> {
 
 // Says why a call failed, of its file, or else of the word that the note is about.
 fn tell_trouble<R: Eprint>(rt: &R, note: &Note, trouble: &Trouble) -> io::Result<()> {
-    match &trouble.file {
-        Some(file) => tell_failure(rt, file.text(), &trouble.error),
-        None => tell_failure(rt, note.word.text(), &trouble.error),
-    }
+    let word = match &trouble.file {
+        Some(file) => file.text(),
+        None => note.word.text(),
+    };
+    tell_failure(rt, word, &trouble.error)
 }
 
 // What stands under a name, by the numbers of its device and its node; none where nothing does.
