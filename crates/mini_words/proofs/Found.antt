@@ -1,5 +1,5 @@
 -- What clap's matches hold, in the words of its definitions.
-use Rattle.std.proofs.Common.{◌≡◌, ◌∙◌, List, [], Bor, map, ap}
+use Rattle.std.proofs.Common.{◌≡◌, ◌∙◌, List, [], Bor, map, ap, refl}
 use Rattle.std.specs.Prelude.{Option, None, Some, option_map, unwrap_or}
 use Rattle.clap.proofs.WalkLemmas.{first_value-rows, raw_values-rows}
 use Rattle.clap.specs.Words.{Text, first_value, matched_of, raw_values, rows_of}
@@ -17,3 +17,8 @@ pub words_found : (f : Found) (id : Text) (found : Option (Bor (List (Bor Text))
 unfolding values_in
 words_found f id None none empty e = ap (λ (words : List (Bor Text)). map (λ s. s.now) words) empty ∙ ap (λ (o : Option (List Text)). unwrap_or o []) (e ∙ raw_values-rows f id)
 words_found f id (Some words) none empty e = ap (λ (o : Option (List Text)). unwrap_or o []) (e ∙ raw_values-rows f id)
+
+-- the text that was found, or another
+pub text_found : (found : Option (Bor Text)) (default : Bor Text) → (unwrap_or found default).now ≡ unwrap_or (option_map (λ s. s.now) found) default.now
+text_found None default = refl
+text_found (Some text) default = refl

@@ -40,12 +40,17 @@ pub struct CommandForm<'a> {
     pub arguments: &'a [Argument<'a>],
 }
 
-/// A command without its arguments.
-pub fn new_command<'a>(alloc: Global, form: &CommandForm<'a>) -> Command<'a>
-    ensures { HasForm result (new_app form.now.name.now) }
+/// A command with no arguments, and what help says of it.
+pub fn new_command<'a>(
+    alloc: Global,
+    name: &'a str,
+    about: &'a str,
+    behind: Option<&'a str>,
+) -> Command<'a>
+    ensures { HasForm result (new_app name.entry.now) }
 {
-    let command = Command::new(alloc, form.name).about(form.about);
-    match form.behind {
+    let command = Command::new(alloc, name).about(about);
+    match behind {
         Some(text) => command.after_help(text),
         None => command,
     }
@@ -98,7 +103,8 @@ fn with_arguments<'a>(
 fn command_of<'a>(alloc: Global, form: &CommandForm<'a>) -> Result<Command<'a>, AllocError>
     ensures { IfOk result (λ c. HasForm c (form_for form.now)) }
 {
-    with_arguments(alloc, new_command(alloc, form), form.arguments)
+    let command = new_command(alloc, form.name, form.about, form.behind);
+    with_arguments(alloc, command, form.arguments)
 }
 
 // Adds a subcommand, whose arguments are its own.

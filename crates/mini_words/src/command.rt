@@ -273,17 +273,11 @@ const COMMANDS: [CommandForm<'static>; 9] = [
     },
 ];
 
-const TOP: CommandForm<'static> = CommandForm {
-    name: "minidisk",
-    about: "Look into images of CMS minidisks, and copy files in and out",
-    behind: Some(EXAMPLES),
-    arguments: &[],
-};
-
 fn top_command<'a>(alloc: Global) -> Command<'a>
     ensures { HasForm result top_form }
 {
-    new_command(alloc, &TOP)
+    let about = "Look into images of CMS minidisks, and copy files in and out";
+    new_command(alloc, "minidisk", about, Some(EXAMPLES))
         .version("0.1.0")
         .subcommand_required(true)
         .disable_help_subcommand(true)
