@@ -25,4 +25,3 @@ pub mod OwnFile
 pub mod AddShaped
 pub mod TablesTold
 pub mod SoundMeasures
-pub mod OutputModes

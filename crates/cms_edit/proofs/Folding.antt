@@ -20,7 +20,7 @@ use Rattle.cms_edit.specs.Buffers.{Buffered, inserted, most_lines, removed, repl
 use Rattle.cms_edit.specs.Edits as edits
 use Rattle.cms_edit.specs.Edits.{Edited, change, changed_current, code_told, done_by, done_by_any, edit, edit_told, input, is_line, located, no_room, on_line, save, stays, unable, with_changed}
 use Rattle.cms_edit.specs.Editors as editors
-use Rattle.cms_edit.specs.Editors.{Answered, answered, asks, done, editor_of, ends, got, held, is_end, opened, put_answered, puts, refused, says, sent, step, taken, told_line, told_text, went, with_buffer}
+use Rattle.cms_edit.specs.Editors.{Answered, answered, asks, done, ends, got, held, is_end, opened, put_answered, puts, refused, says, sent, step, taken, told_line, told_text, went, with_buffer}
 use Rattle.cms_edit.specs.LawsEdits.{Exchange, FoldsEdits, Follows, Given, Puts, PutsAre, Stands, Talk, folded, given_by, reply_in, subcommands}
 use Rattle.cms_edit.specs.Subcommands.{Subcommand, Top, Bottom, Next, Up, TypeLines, Input, Replace, Delete, Locate, Change, Save, End, subcommand_of}
 use Rattle.cms_edit.proofs.Holding.{held_back}

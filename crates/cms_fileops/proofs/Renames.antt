@@ -1,11 +1,8 @@
 -- The numbers and the names that files get.
-use Rattle.std.proofs.Common.{◌≡◌, ◌∙◌, ℕ, ◌-◌, ◌≤◌, List, [], ◌∷◌, Bool, true, false, Option, Some, None, Result, Ok, Err, inl, inr, refl, subst, sym, ap, arith}
-use Rattle.std.specs.Prelude.{⊤, ◌⊎◌, ◌↔◌, cond, not, ◌==◌, ◌&&◌, nat_le, is_some, IfSome, IsSome, IsTrue, unwrap_or}
-use Rattle.std.proofs.lemmas.Bool.{leb-true}
+use Rattle.std.proofs.Common.{◌≡◌, ◌∙◌, ℕ, ◌≤◌, List, Bool, true, false, Option, Some, None, Result, Ok, Err, inl, inr, refl, subst, sym, ap}
+use Rattle.std.specs.Prelude.{⊤, ◌⊎◌, ◌↔◌, cond, not, ◌==◌, ◌&&◌, is_some, IfSome, IsSome, IsTrue, unwrap_or}
 use Rattle.std.specs.Option.{option_map}
 use Rattle.cms_fields.specs.Steps.{◌>>=◌, ◌>>◌}
-use Rattle.cms_names.specs.Modes.{letter_of, mode_number_of, mode_word_of, numbered_mode, short_mode_of}
-use Rattle.cms_names.specs.declared.mode.ModeWord.TheVariants as mode
 use Rattle.cms_names.specs.declared.name.Name.{Name}
 use Rattle.cms_names.specs.declared.output.OutId.{OutId}
 use Rattle.cms_model.specs.Minidisks.{same_name}
@@ -13,7 +10,7 @@ use Rattle.cms_model.proofs.Changing.{names_told}
 use Rattle.cms_disk.specs.Disks.{Accessed, place_of}
 use Rattle.cms_line.specs.declared.token.Token.{Token}
 use Rattle.cms_operands.specs.Choices.{chosen_of}
-use Rattle.cms_operands.specs.Operands.{ended, needed, operands_of, or_refused, output_mode, output_of, writing_mode}
+use Rattle.cms_operands.specs.Operands.{ended, needed, operands_of, output_mode, writing_mode}
 use Rattle.cms_operands.specs.declared.choosing.ChosenOption.{ChosenOption}
 use Rattle.cms_operands.specs.declared.operand.WriteMode.{WriteMode}
 use Rattle.cms_operands.specs.declared.refusal.Refusal.{Refusal}
@@ -24,6 +21,7 @@ use Rattle.cms_search.proofs.Shown.{position_named, shelf_at, shelf_none}
 use Rattle.cms_files.specs.Identifiers.{name_choice, output_name}
 use Rattle.cms_files.specs.declared.identifier.NameChoice.{NameChoice}
 use Rattle.cms_files.proofs.OpenedFiles.{seat_with}
+use Rattle.cms_files.proofs.OutputModes.{HasNumber, mode_out}
 use Rattle.cms_fileops.specs.Rename.{AreOthers, HasMode, is_others, number_for, options, rename_line, rename_operands, renaming_of, types_of}
 use Rattle.cms_fileops.specs.declared.rename.RenameFiles.{RenameFiles}
 use Rattle.cms_fileops.specs.declared.rename.RenameLine.{RenameLine}
@@ -31,50 +29,7 @@ use Rattle.cms_fileops.specs.declared.rename.RenameOption.{RenameOption}
 
 -- ---- the number of the line
 
-abbrev OutHas : Option WriteMode → Type 0
-OutHas out = IfSome out (λ mode. HasMode mode.number)
-
-number_below : (c k : ℕ) → mode_number_of c ≡ Some k → k ≤ 6
-unfolding mode_number_of
-number_below c k is = cases (nat_le 0xF0 c) (nat_le c 0xF6) refl is
-  where
-    cases : (a b : Bool) → nat_le c 0xF6 ≡ b → cond (a && b) (Some (c - 0xF0)) None ≡ Some k → k ≤ 6
-    cases true true at is = let same : c - 0xF0 ≡ k = cc is in let below = leb-true c 0xF6 at in omega (arith, same, below)
-    cases true false at is = absurd (cc is)
-    cases false b at is = absurd (cc is)
-
-short_out : (c : ℕ) (out : Option WriteMode) → output_of (short_mode_of c) ≡ Some out → OutHas out
-unfolding short_mode_of
-short_out c out is = cases (c == 0x5C) (c == 0x7E) (letter_of c) is
-  where
-    cases : (a b : Bool) (x : Option ℕ) → output_of (cond a (Some mode.Any) (cond b (Some mode.Same) (option_map (λ l. mode.Letter l) x))) ≡ Some out → OutHas out
-    cases true b x is = absurd (cc is)
-    cases false true x is = let same : ◌≡◌ {A = Option WriteMode} None out = cc is in subst OutHas same tt
-    cases false false None is = absurd (cc is)
-    cases false false (Some l) is = let same : ◌≡◌ {A = Option WriteMode} (Some (record { letter = l; number = None })) out = cc is in subst OutHas same tt
-
-word_out : (text : List ℕ) (out : Option WriteMode) → output_of (mode_word_of text) ≡ Some out → OutHas out
-unfolding mode_word_of
-word_out [] out is = absurd (cc is)
-word_out (c ∷ []) out is = short_out c out is
-word_out (c ∷ d ∷ []) out is = cases (letter_of c) (mode_number_of d) refl is
-  where
-    cases : (x y : Option ℕ) → mode_number_of d ≡ y → output_of (numbered_mode x y) ≡ Some out → OutHas out
-    cases None y at is = absurd (cc is)
-    cases (Some x) None at is = absurd (cc is)
-    cases (Some x) (Some k) at is =
-        let same : ◌≡◌ {A = Option WriteMode} (Some (record { letter = x; number = Some k })) out = cc is in subst OutHas same (number_below d k at)
-word_out (c ∷ d ∷ e ∷ more) out is = absurd (cc is)
-
-mode_out : (text : List ℕ) (out : Option WriteMode) → output_mode 6 text ≡ Ok out → OutHas out
-unfolding output_mode
-mode_out text out is = cases (output_of (mode_word_of text)) refl is
-  where
-    cases : (x : Option (Option WriteMode)) → output_of (mode_word_of text) ≡ x → or_refused x (BadMode 6) ≡ Ok out → OutHas out
-    cases None at is = absurd (cc is)
-    cases (Some o) at is = let same : o ≡ out = cc is in subst OutHas same (word_out text o at)
-
-number_out : (n : ℕ) (out : Option WriteMode) (number : Option ℕ) → OutHas out → number_for n out ≡ Ok number → HasMode number
+number_out : (n : ℕ) (out : Option WriteMode) (number : Option ℕ) → HasNumber out → number_for n out ≡ Ok number → HasMode number
 number_out n None number has is = let same : ◌≡◌ {A = Option ℕ} None number = cc is in subst HasMode same tt
 number_out n (Some m) number has is = cases (m.letter == n) is
   where
@@ -111,7 +66,7 @@ operands_number operands files is =
     let number = before (number_for m.0.letter out.0) (at_end names.0 m.0 output.0) files out.2 in
     let made : RenameFiles = record { names = names.0; mode = m.0; output = output.0; number = number.0 } in
     let same : made ≡ files = last_is (ended operands 7) made files number.2 in
-    subst (λ (f : RenameFiles). HasMode f.number) {x = made} same (number_out m.0.letter out.0 number.0 (mode_out out_word.0 out.0 out.1) number.1)
+    subst (λ (f : RenameFiles). HasMode f.number) {x = made} same (number_out m.0.letter out.0 number.0 (mode_out 6 out_word.0 out.0 (sym out.1)) number.1)
 
 -- that of RENAME's line
 pub line_number : (words : List Token) (line : RenameLine) → rename_line words ≡ Ok line → HasMode line.files.number

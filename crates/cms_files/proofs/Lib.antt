@@ -3,6 +3,7 @@ pub mod Machines
 pub mod Found
 pub mod TakenFiles
 pub mod Updates
+pub mod OutputModes
 pub mod Records
 pub mod Forgetting
 pub mod OpenedFiles

@@ -1,4 +1,4 @@
-use Rattle.cms_copyfile.proofs.OutputModes.{mode_out}
+use Rattle.cms_files.proofs.OutputModes.{mode_out}
 use Rattle.cms_copyfile.proofs.line.given_output.Goals as goal
 
 pub returns-clause-number : goal.returns-clause-number

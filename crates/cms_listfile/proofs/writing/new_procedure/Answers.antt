@@ -1,4 +1,4 @@
-use Rattle.std.proofs.Common.{◌≡◌, ◌++◌, ◌∷◌, [], codes, subst, arith}
+use Rattle.std.proofs.Common.{◌++◌, ◌∷◌, [], codes, subst, arith}
 use Rattle.std.specs.Prelude.{IfSome, Option}
 use Rattle.cms_names.specs.declared.name.Format.TheVariants.{F}
 use Rattle.cms_text.specs.Texts.{coded}
