@@ -1,10 +1,10 @@
 -- ACCESS's tree, as the table says what was done.
 use Rattle.std.proofs.Common.{ℕ, Option, Result, Ok, Err}
 use Rattle.cms_machine.specs.Acts.{Act, bind}
-use Rattle.cms_search.specs.Accessing.{accessing_tree}
+use Rattle.cms_search.specs.Access.{accessing_tree}
 use Rattle.cms_search.specs.Calls.{Acts, Spot, beside, course_of, itself, machine_of}
 use Rattle.cms_search.specs.Machine.{Course, Machine}
-use Rattle.cms_search.specs.declared.accessing.AccessEnd.{AccessEnd}
+use Rattle.cms_search.specs.declared.access.AccessEnd.{AccessEnd}
 use Rattle.cms_search.specs.declared.state.Course as declared
 use Rattle.cms_search.specs.declared.state.End.{End}
 use Rattle.cms_search.proofs.Acts.{acts_after, acts_stop, comes_in}

@@ -16,10 +16,10 @@ use Rattle.cms_operands.specs.declared.refusal.Refusal.TheVariants.{BadOperand}
 use Rattle.cms_world.specs.Seen.{Seen}
 use Rattle.cms_search.specs.Calls.{Acts, Does, Meaning, Spot, course_of, machine_of, said, spot_at}
 use Rattle.cms_search.specs.Machine.{Course, Letter}
-use Rattle.cms_search.specs.Refusing.{no_disk}
+use Rattle.cms_search.specs.Refusals.{no_disk}
 use Rattle.cms_search.specs.Searches.{item_at}
 use Rattle.cms_search.specs.Tables.{Seated}
-use Rattle.cms_search.specs.Telling.{letter_text}
+use Rattle.cms_search.specs.Texts.{letter_text}
 use Rattle.cms_search.specs.declared.state.Course as declared
 use Rattle.cms_search.specs.declared.state.Course.TheVariants as course
 use Rattle.cms_search.specs.declared.state.End.{End}
@@ -27,7 +27,7 @@ use Rattle.cms_search.specs.declared.state.State.{State}
 use Rattle.cms_search.specs.declared.table.Seat.{Seat}
 use Rattle.cms_search.proofs.Acts.{acts_same}
 use Rattle.cms_search.proofs.Released.{letter_told}
-use Rattle.cms_search.proofs.Staying.{acts_refused}
+use Rattle.cms_search.proofs.StateCalls.{acts_refused}
 use Rattle.cms_access.specs.Century.{century_disk, century_letter, century_line, century_operands, moving_stamps}
 use Rattle.cms_access.specs.declared.century.CenturyLine.{CenturyLine}
 use Rattle.cms_access.proofs.Formats.{IsTold, there}

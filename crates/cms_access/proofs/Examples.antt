@@ -24,7 +24,7 @@ use Rattle.cms_line.specs.Tokens.{tokens_from, tokens_of}
 use Rattle.cms_operands.specs.Choices.{all_valued, chosen_of, setting_in, valued}
 use Rattle.cms_operands.specs.Operands.{access_mode, access_mode_in, device, device_of, device_or_letter, ended, given, given_or, hexadecimal_of, letter, letter_or_all, needed, number, number_within, operands_of}
 use Rattle.cms_operands.specs.Refusals.{message_of}
-use Rattle.cms_search.specs.Asking.{asking}
+use Rattle.cms_search.specs.Asks.{asking}
 use Rattle.cms_search.specs.Machine.{Letter, Machine, Course, Went, OutOfTurns, typing}
 use Rattle.cms_search.specs.Searches.{places_from}
 use Rattle.cms_search.specs.declared.state.Device.{Device}

@@ -17,11 +17,11 @@ use Rattle.cms_disk.specs.declared.unit.UnitInfo.{UnitInfo}
 use Rattle.cms_search.specs.Calls.{Acts, Does, Meaning, Spot, course_of, holds, machine_of, said, spot_at}
 use Rattle.cms_search.specs.Held.{StandsAs, disk_of}
 use Rattle.cms_search.specs.Machine.{Course, Letter, letter_at}
-use Rattle.cms_search.specs.Refusing.{no_disk}
+use Rattle.cms_search.specs.Refusals.{no_disk}
 use Rattle.cms_search.specs.Searches.{item_at}
 use Rattle.cms_search.specs.Shows.{device_of}
 use Rattle.cms_search.specs.Tables.{Accesses, Seated, letters_of, place_of_device, unit_of_device, writing}
-use Rattle.cms_search.specs.Telling.{device_text, letter_text}
+use Rattle.cms_search.specs.Texts.{device_text, letter_text}
 use Rattle.cms_search.specs.declared.state.Course as declared
 use Rattle.cms_search.specs.declared.state.Course.TheVariants as course
 use Rattle.cms_search.specs.declared.state.Device.{Device}
@@ -29,11 +29,11 @@ use Rattle.cms_search.specs.declared.state.End.{End}
 use Rattle.cms_search.specs.declared.state.State.{State}
 use Rattle.cms_search.specs.declared.table.Seat.{Seat}
 use Rattle.cms_search.proofs.Acts.{acts_same}
-use Rattle.cms_search.proofs.Holding.{holds_some}
+use Rattle.cms_search.proofs.IdleEvents.{holds_some}
 use Rattle.cms_search.proofs.Released.{get_map, letter_told, unit_told, vdev_is}
-use Rattle.cms_search.proofs.Staying.{acts_refused}
+use Rattle.cms_search.proofs.StateCalls.{acts_refused}
+use Rattle.cms_access.specs.EmptyVolume.{is_marked}
 use Rattle.cms_access.specs.Format.{asking_relabel, format_disk, format_line, format_operands, format_unit, formatting, in_place, in_slot, on_device, relabel, relabels, size_of}
-use Rattle.cms_access.specs.Remaking.{is_marked}
 use Rattle.cms_access.specs.declared.format.FormatLine.{FormatLine}
 use Rattle.cms_access.specs.declared.format.Formatting.{Formatting}
 use Rattle.cms_access.proofs.Lettered.{word_below}

@@ -19,13 +19,13 @@ use Rattle.cms_disk.specs.declared.fault.DiskFault.{DiskFault}
 use Rattle.cms_disk.specs.declared.fault.DiskFault.TheVariants as failed
 use Rattle.cms_disk.specs.declared.unit.UnitInfo.{UnitInfo}
 use Rattle.cms_search.specs.Calls.{Acts, Comes, Does, Spot, Usable, course_of, machine_of, said, spot_at}
-use Rattle.cms_search.specs.Formatting.{FormatsUnit, MayFormat, answer_made, table_made}
+use Rattle.cms_search.specs.Format.{FormatsUnit, MayFormat, answer_made, table_made}
 use Rattle.cms_search.specs.Machine.{Course, Letter, Places}
-use Rattle.cms_search.specs.Reading.{without_device}
-use Rattle.cms_search.specs.Releasing.{forgotten, left_by, vdev_of}
+use Rattle.cms_search.specs.Places.{without_device}
 use Rattle.cms_search.specs.Searches.{item_at}
 use Rattle.cms_search.specs.Tables.{Accesses, Seated, cleared, letters_of, place_of_device, unit_of_device}
-use Rattle.cms_search.specs.Telling.{device_text, letter_text}
+use Rattle.cms_search.specs.Texts.{device_text, letter_text}
+use Rattle.cms_search.specs.Units.{forgotten, left_by, vdev_of}
 use Rattle.cms_search.specs.declared.state.Course as declared
 use Rattle.cms_search.specs.declared.state.Course.TheVariants as course
 use Rattle.cms_search.specs.declared.state.End.{End}
@@ -34,7 +34,7 @@ use Rattle.cms_search.specs.declared.state.State.{State}
 use Rattle.cms_search.specs.declared.table.Seat.{Seat}
 use Rattle.cms_search.proofs.Acts.{acts_after, cut_off, refused}
 use Rattle.cms_search.proofs.Released.{letter_told, vdev_is}
-use Rattle.cms_access.specs.Remaking.{MayRemake, forgotten_in, is_marked, made_of}
+use Rattle.cms_access.specs.EmptyVolume.{MayRemake, forgotten_in, is_marked, made_of}
 use Rattle.cms_access.specs.declared.format.FormatLine.{FormatLine}
 use Rattle.cms_access.proofs.Releases.{some_place}
 use Rattle.cms_access.proofs.Remade.{Remade, failed_tree, finished_tree, places_left, remade_done, remade_doubted, remade_emptied, remaking_tree}

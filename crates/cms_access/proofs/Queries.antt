@@ -30,12 +30,12 @@ use Rattle.cms_text.specs.Texts.{coded}
 use Rattle.cms_search.specs.Calls.{Acts, Does, Holds, Spot, course_of, itself, machine_of, said}
 use Rattle.cms_search.specs.Held.{HoldsTable}
 use Rattle.cms_search.specs.Machine.{Course, Letter, Machine, Went, letter_at, minidisk_in, typing}
-use Rattle.cms_search.specs.Refusing.{no_disk}
-use Rattle.cms_search.specs.Releasing.{vdev_of}
+use Rattle.cms_search.specs.Refusals.{no_disk}
 use Rattle.cms_search.specs.Searches.{item_at, places_from}
 use Rattle.cms_search.specs.Shows.{device_of}
 use Rattle.cms_search.specs.Tables.{Accesses, Seated, letters_of}
-use Rattle.cms_search.specs.Telling.{letter_text}
+use Rattle.cms_search.specs.Texts.{letter_text}
+use Rattle.cms_search.specs.Units.{vdev_of}
 use Rattle.cms_search.specs.declared.state.Course as declared
 use Rattle.cms_search.specs.declared.state.Course.TheVariants as course
 use Rattle.cms_search.specs.declared.state.Device.{Device}
@@ -44,11 +44,11 @@ use Rattle.cms_search.specs.declared.state.End.{End}
 use Rattle.cms_search.specs.declared.state.State.{State}
 use Rattle.cms_world.specs.Seen.{Seen}
 use Rattle.cms_search.proofs.Acts.{acts_same}
+use Rattle.cms_search.proofs.LetterDisks.{meets}
 use Rattle.cms_search.proofs.Lined.{acts_typed, nothing, reached_none, reached_off, reached_on, reached_to, typing_first, typing_more, typing_none, typing_then, Reached}
-use Rattle.cms_search.proofs.Meeting.{meets}
 use Rattle.cms_search.proofs.Released.{get_map, letter_told}
-use Rattle.cms_search.proofs.Staying.{acts_refused}
-use Rattle.cms_search.proofs.Talking.{silent}
+use Rattle.cms_search.proofs.StateCalls.{acts_refused}
+use Rattle.cms_search.proofs.Talks.{silent}
 use Rattle.cms_access.specs.Query.{all_lines, disk_line, disk_text, header, line_of, query_letter, search_line, search_text, seen_count, status, with_parent}
 use Rattle.cms_access.specs.Shown.{count_seen, device_in, lines_from, seat_lines, seat_text}
 use Rattle.cms_access.specs.declared.shown.Shown.{Shown}

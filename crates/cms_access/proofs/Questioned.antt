@@ -13,7 +13,7 @@ use Rattle.cms_line.specs.Messages.{message_text}
 use Rattle.cms_line.specs.declared.message.Message.{Message}
 use Rattle.cms_line.specs.declared.message.Message.TheVariants.{M062}
 use Rattle.cms_disk.specs.declared.unit.UnitInfo.{UnitInfo}
-use Rattle.cms_search.specs.Asking as asking
+use Rattle.cms_search.specs.Asks as asking
 use Rattle.cms_search.specs.Calls.{Acts, Does, Meaning, Spot, course_of, itself, machine_of, said, spot_at}
 use Rattle.cms_search.specs.Machine.{Course, Machine, Went}
 use Rattle.cms_search.specs.Shows.{device_of, devices_of}

@@ -10,22 +10,22 @@ use Rattle.cms_line.specs.Messages.{message_text}
 use Rattle.cms_line.specs.declared.message.Message.TheVariants.{M069, M113}
 use Rattle.cms_disk.specs.declared.unit.UnitInfo.{UnitInfo}
 use Rattle.cms_search.specs.Calls.{Acts, Does, Spot, course_of, machine_of, said}
-use Rattle.cms_search.specs.Leaving.{without_letter}
 use Rattle.cms_search.specs.Machine.{Course, Letter, Went, letter_at}
-use Rattle.cms_search.specs.Refusing.{no_disk}
-use Rattle.cms_search.specs.Releasing.{letter_with, unit_with}
+use Rattle.cms_search.specs.Refusals.{no_disk}
+use Rattle.cms_search.specs.Release.{without_letter}
 use Rattle.cms_search.specs.Searches.{has, item_at}
 use Rattle.cms_search.specs.Tables.{Seated, letters_of, place_of_device, unit_of_device}
-use Rattle.cms_search.specs.Telling.{device_text, letter_text}
+use Rattle.cms_search.specs.Texts.{device_text, letter_text}
+use Rattle.cms_search.specs.Units.{letter_with, unit_with}
 use Rattle.cms_search.specs.declared.state.Course as declared
 use Rattle.cms_search.specs.declared.state.Course.TheVariants as course
 use Rattle.cms_search.specs.declared.state.End.{End}
 use Rattle.cms_search.specs.declared.state.State.{State}
 use Rattle.cms_world.specs.Seen.{Seen}
 use Rattle.cms_search.proofs.Released.{letter_told, machine_left, some_of, unit_told}
-use Rattle.cms_search.proofs.Staying.{acts_refused, acts_stayed, holds_released, usable_released}
+use Rattle.cms_search.proofs.StateCalls.{acts_refused, acts_stayed, holds_released, usable_released}
 use Rattle.cms_search.proofs.Acts.{acts_same}
-use Rattle.cms_search.proofs.Tabling.{get_some}
+use Rattle.cms_search.proofs.Tables.{get_some}
 use Rattle.cms_access.specs.Release.{release_device, release_letter, release_unit}
 
 -- ---- a letter

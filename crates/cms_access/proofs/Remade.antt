@@ -42,25 +42,25 @@ use Rattle.cms_disk.specs.declared.fault.DiskFault.TheVariants as failed
 use Rattle.cms_disk.specs.declared.unit.UnitInfo.{UnitInfo}
 use Rattle.cms_disk.proofs.Leaving.{covers_looked}
 use Rattle.cms_search.specs.Calls.{Comes, Holds, IsLater, IsSeatOf, IsUsable, IsUsableTable, Spot, Usable, at, holds, machine_of, refusal_tree}
-use Rattle.cms_search.specs.Formatting as formatting
-use Rattle.cms_search.specs.Formatting.{table_made}
+use Rattle.cms_search.specs.Format as formatting
+use Rattle.cms_search.specs.Format.{table_made}
 use Rattle.cms_search.specs.Held.{HoldsTable, HoldsUnit, IsDoubtSlot, IsSettledSlot, StandsAs, disk_of}
 use Rattle.cms_search.specs.Machine.{Course, Letter, Machine, Places, Went, after_step, letter_at}
-use Rattle.cms_search.specs.Releasing.{forgotten, left_by, released}
 use Rattle.cms_search.specs.Searches.{item_at}
 use Rattle.cms_search.specs.Shows.{device_of}
 use Rattle.cms_search.specs.Tables as tables
 use Rattle.cms_search.specs.Tables.{Accesses, IsTable, Seated, cleared, letter_for, letters_of, marked, place_of_device, without}
-use Rattle.cms_search.specs.Telling.{device_text, letter_text}
+use Rattle.cms_search.specs.Texts.{device_text, letter_text}
+use Rattle.cms_search.specs.Units.{forgotten, left_by, released}
 use Rattle.cms_search.specs.declared.state.Device.{Device}
 use Rattle.cms_search.specs.declared.state.State.{State}
-use Rattle.cms_search.proofs.Changing.{slot_there, told_after}
+use Rattle.cms_search.proofs.Changes.{slot_there, told_after}
 use Rattle.cms_search.proofs.Frames.{holds_touched}
-use Rattle.cms_search.proofs.Holding.{holds_some, usable_grown}
+use Rattle.cms_search.proofs.IdleEvents.{holds_some, usable_grown}
 use Rattle.cms_search.proofs.Released.{disk_none, get_map, holds_left, quiet_seated, unit_told}
-use Rattle.cms_search.proofs.Seating.{disk_beside, disk_seated, disk_without, letters_seated, letters_without}
 use Rattle.cms_search.proofs.Seats.{letters_cleared}
-use Rattle.cms_search.proofs.Tabling.{get_some, item_put, item_without, stays, table_accessed, table_vacated}
+use Rattle.cms_search.proofs.SeatsTaken.{disk_beside, disk_seated, disk_without, letters_seated, letters_without}
+use Rattle.cms_search.proofs.Tables.{get_some, item_put, item_without, stays, table_accessed, table_vacated}
 use Rattle.cms_access.specs.Format.{accessed, in_place, in_slot, made, remaking, remaking_in, vacated, wiped, wiping}
 use Rattle.cms_access.specs.declared.format.FormatLine.{FormatLine}
 

@@ -8,15 +8,15 @@ use Rattle.cms_line.specs.declared.message.Message.TheVariants.{M112, M723}
 use Rattle.cms_line.specs.declared.token.Token.{Token}
 use Rattle.cms_operands.specs.Choices.{without_options}
 use Rattle.cms_access.specs.declared.access.AccessLine.{AccessLine}
-use Rattle.cms_search.specs.Accessing.{accessing}
+use Rattle.cms_search.specs.Access.{accessing}
 use Rattle.cms_search.specs.Machine.{Machine, Course, Went, refusal}
 use Rattle.cms_operands.specs.Operands.{ended, operands_of}
 use Rattle.cms_operands.specs.Optional.{access_mode_or_a, device_or}
 use Rattle.cms_operands.specs.declared.refusal.Refusal.{Refusal}
-use Rattle.cms_search.specs.Refusing.{device_fault, no_device, no_disk, not_accessed, on_line}
-use Rattle.cms_search.specs.Telling.{device_text, letter_text}
-use Rattle.cms_search.specs.declared.accessing.AccessEnd.{AccessEnd}
-use Rattle.cms_search.specs.declared.accessing.AccessEnd.TheVariants as ends
+use Rattle.cms_search.specs.Refusals.{device_fault, no_device, no_disk, not_accessed, on_line}
+use Rattle.cms_search.specs.Texts.{device_text, letter_text}
+use Rattle.cms_search.specs.declared.access.AccessEnd.{AccessEnd}
+use Rattle.cms_search.specs.declared.access.AccessEnd.TheVariants as ends
 
 -- ---- the line
 

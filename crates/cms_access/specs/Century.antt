@@ -9,9 +9,9 @@ use Rattle.cms_operands.specs.Operands.{ended, letter, needed, operands_of}
 use Rattle.cms_operands.specs.Optional.{number_or}
 use Rattle.cms_operands.specs.declared.refusal.Refusal.{Refusal}
 use Rattle.cms_search.specs.ChangeTold.{change_told}
+use Rattle.cms_search.specs.DeviceSteps.{changing}
 use Rattle.cms_search.specs.Machine.{Letter, Machine, Course, letter_at}
-use Rattle.cms_search.specs.Refusing.{not_accessed, on_line, read_only}
-use Rattle.cms_search.specs.Stepping.{changing}
+use Rattle.cms_search.specs.Refusals.{not_accessed, on_line, read_only}
 use Rattle.cms_access.specs.declared.century.CenturyLine.{CenturyLine}
 
 -- the letter of a disk, and a number from 0 to 100, which is 70 where it is left out

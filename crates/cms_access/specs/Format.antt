@@ -16,7 +16,7 @@ use Rattle.cms_machine.specs.Steps.{Step, Wipe, Make, Outcome, is_doubt}
 use Rattle.cms_line.specs.Messages.{message_text}
 use Rattle.cms_line.specs.declared.message.Message.TheVariants.{M062, M114, M115, M603, M605, M733}
 use Rattle.cms_line.specs.declared.token.Token.{Token}
-use Rattle.cms_search.specs.Asking.{Asked, Given, Spent, ask}
+use Rattle.cms_search.specs.Asks.{Asked, Given, Spent, ask}
 use Rattle.cms_search.specs.ChangeTold.{change_told}
 use Rattle.cms_operands.specs.Choices.{chosen_of, flag, form}
 use Rattle.cms_search.specs.Machine.{Letter, Machine, Course, Went, OutOfTurns, after_step, letter_at, refusal}
@@ -32,10 +32,10 @@ use Rattle.cms_access.specs.declared.format.FormatLine.{FormatLine}
 use Rattle.cms_access.specs.declared.format.FormatOption.{FormatOption}
 use Rattle.cms_access.specs.declared.format.FormatOption.TheVariants as option
 use Rattle.cms_access.specs.declared.format.Formatting.{Formatting}
-use Rattle.cms_search.specs.Refusing.{no_device, no_disk, not_accessed, on_line, read_only, unless_fault}
-use Rattle.cms_search.specs.Releasing.{left_by, released, unit_with, vdev_of}
-use Rattle.cms_search.specs.Stepping.{changing}
-use Rattle.cms_search.specs.Telling.{device_text, left_in, letter_text}
+use Rattle.cms_search.specs.DeviceSteps.{changing}
+use Rattle.cms_search.specs.Refusals.{no_device, no_disk, not_accessed, on_line, read_only, unless_fault}
+use Rattle.cms_search.specs.Texts.{device_text, left_in, letter_text}
+use Rattle.cms_search.specs.Units.{left_by, released, unit_with, vdev_of}
 
 -- ---- the line
 

@@ -4,5 +4,5 @@ pub mod Query
 pub mod Format
 pub mod Century
 pub mod Questions
-pub mod Remaking
+pub mod EmptyVolume
 pub mod Shown

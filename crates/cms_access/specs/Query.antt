@@ -18,9 +18,9 @@ use Rattle.cms_operands.specs.Optional.{given_letter_or_all}
 use Rattle.cms_search.specs.Searches.{places_where}
 use Rattle.cms_operands.specs.declared.refusal.Refusal.{Refusal}
 use Rattle.cms_operands.specs.declared.refusal.Refusal.TheVariants.{BadOperand}
-use Rattle.cms_search.specs.Refusing.{not_accessed, on_line}
-use Rattle.cms_search.specs.Releasing.{vdev_of}
-use Rattle.cms_search.specs.Telling.{device_text, left_in, letter_text, right_in, spaced}
+use Rattle.cms_search.specs.Refusals.{not_accessed, on_line}
+use Rattle.cms_search.specs.Texts.{device_text, left_in, letter_text, right_in, spaced}
+use Rattle.cms_search.specs.Units.{vdev_of}
 
 -- ---- the line
 

@@ -4,7 +4,7 @@ use Rattle.cms_machine.specs.Acts.{Act, Out, typed_line}
 use Rattle.cms_machine.specs.Slots.{Slot}
 use Rattle.cms_line.specs.Messages.{message_text}
 use Rattle.cms_line.specs.declared.message.Message.{Message}
-use Rattle.cms_search.specs.Asking.{Asked}
+use Rattle.cms_search.specs.Asks.{Asked}
 use Rattle.cms_search.specs.Calls.{Meaning, course_of, machine_of}
 use Rattle.cms_search.specs.Talks.{ask_tree}
 use Rattle.cms_search.specs.declared.state.State.{State}

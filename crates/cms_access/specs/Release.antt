@@ -10,9 +10,9 @@ use Rattle.cms_operands.specs.Operands.{device_or_letter, ended, needed, operand
 use Rattle.cms_operands.specs.declared.operand.Target.{Target}
 use Rattle.cms_operands.specs.declared.operand.Target.TheVariants as target
 use Rattle.cms_operands.specs.declared.refusal.Refusal.{Refusal}
-use Rattle.cms_search.specs.Refusing.{no_device, no_disk, not_accessed, on_line}
-use Rattle.cms_search.specs.Releasing.{letter_with, released, unit_with}
-use Rattle.cms_search.specs.Telling.{device_text}
+use Rattle.cms_search.specs.Refusals.{no_device, no_disk, not_accessed, on_line}
+use Rattle.cms_search.specs.Texts.{device_text}
+use Rattle.cms_search.specs.Units.{letter_with, released, unit_with}
 
 -- three characters are a device, and one is a letter
 unfoldable pub release_operands : List Token → Result Target Refusal

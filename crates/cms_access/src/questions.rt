@@ -5,7 +5,7 @@ ghost use Rattle.cms_ebcdic.specs.CodePage.{upper_of};
 ghost use Rattle.cms_names.specs.Names.{is_name_character};
 ghost use Rattle.cms_search.specs.Calls.{Acts, machine_of, spot};
 ghost use Rattle.cms_search.specs.Talks.{asked_of};
-ghost use Rattle.cms_search.specs.Telling.{left_in};
+ghost use Rattle.cms_search.specs.Texts.{left_in};
 ghost use Rattle.cms_access.specs.Format as spec;
 ghost use Rattle.cms_access.specs.Questions.{label_tree, labelling_of, question_tree};
 

@@ -3,7 +3,7 @@ ghost use Rattle.cms_operands.specs.Choices.{AnswersLine};
 ghost use Rattle.std.specs.Prelude.{◌≡◌, None};
 ghost use Rattle.cms_search.specs.Calls.{Acts, course_of, machine_of, spot};
 ghost use Rattle.cms_search.specs.Machine.{letter_at};
-ghost use Rattle.cms_search.specs.Releasing.{unit_with};
+ghost use Rattle.cms_search.specs.Units.{unit_with};
 ghost use Rattle.cms_access.specs.Release as spec;
 
 use cms_line::{Message, Token, Tokens};

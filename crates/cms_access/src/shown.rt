@@ -5,7 +5,7 @@ ghost use Rattle.cms_machine.specs.Acts.{Done};
 ghost use Rattle.cms_search.specs.Calls.{Does, said};
 ghost use Rattle.cms_search.specs.Machine.{typing};
 ghost use Rattle.cms_search.specs.Searches.{item_at};
-ghost use Rattle.cms_search.specs.Telling.{device_text, left_in, letter_text, right_in, spaced};
+ghost use Rattle.cms_search.specs.Texts.{device_text, left_in, letter_text, right_in, spaced};
 ghost use Rattle.cms_search.specs.Tables.{Seated};
 ghost use Rattle.cms_world.specs.Seen.{seen};
 ghost use Rattle.cms_access.specs.Query as spec;

@@ -27,10 +27,10 @@ use Rattle.cms_world.specs.Seen.{Seen}
 use Rattle.cms_decks.specs.Dumps.{IsDumpOf, dump, file_with}
 use Rattle.cms_cards.specs.Calls.{IsTaken, dealt_of, decks_left, fetched_of}
 use Rattle.cms_cards.specs.Cards.{Dealt, adding, dealt, decks_behind, keeping, on_said, taking}
-use Rattle.cms_cards.specs.Fetching.{Fetched}
-use Rattle.cms_cards.specs.Punching.{Deck, Decks}
-use Rattle.cms_cards.specs.declared.fetching.Fetched as came
-use Rattle.cms_cards.specs.declared.fetching.Fetched.TheVariants as came'
+use Rattle.cms_cards.specs.Fetch.{Fetched}
+use Rattle.cms_cards.specs.PunchedCards.{Deck, Decks}
+use Rattle.cms_cards.specs.declared.fetch.Fetched as came
+use Rattle.cms_cards.specs.declared.fetch.Fetched.TheVariants as came'
 
 -- ---- a command that leaves the decks
 

@@ -4,7 +4,7 @@ use Rattle.cms_ebcdic.specs.CodePage.{code_of, code_page}
 use Rattle.cms_names.specs.Names.{filled}
 use Rattle.cms_names.specs.declared.name.Format.TheVariants.{V}
 use Rattle.cms_model.specs.Minidisks.{File}
-use Rattle.cms_cards.specs.Punching.{punched, record_cards}
+use Rattle.cms_cards.specs.PunchedCards.{punched, record_cards}
 
 -- HELLO, in A FILE A1
 hello : File

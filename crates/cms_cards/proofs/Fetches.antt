@@ -1,26 +1,20 @@
 -- A file that is found and read whole.
-use Rattle.std.proofs.Common.{◌≡◌, ◌∙◌, inl, inr, ⊎_elim, ℕ, ℤ, List, [], ◌∷◌, Option, Some, None, Result, Ok, Err, true, false, arith, pos, length, slice_get, slice_index_or, refl, sym, ap, subst}
+use Rattle.std.proofs.Common.{◌≡◌, ◌∙◌, inl, inr, ⊎_elim, ℕ, ℤ, List, Option, Some, None, Result, Ok, Err, true, false, arith, pos, length, slice_get, refl, sym, ap, subst}
 use Rattle.std.specs.Prelude.{◌⊎◌, ◌&&◌, Bool, if◌then◌else◌, IfErr, IfOk, IfSome, nat_lt}
 use Rattle.std.specs.Option.{option_map}
-use Rattle.cms_journal.specs.Causes.{Counted, Rose}
+use Rattle.cms_journal.specs.Causes.{Rose}
 use Rattle.cms_journal.specs.Journal.{Journal}
-use Rattle.cms_journal.specs.Told.{Told}
 use Rattle.cms_journal.proofs.Counts.{counted_none, counted_one}
 use Rattle.cms_names.specs.declared.name.Name.{Name}
 use Rattle.cms_text.specs.Numbers.{decimal_of}
 use Rattle.cms_model.specs.Changes.{file_named}
-use Rattle.cms_model.specs.LawsChanges.{IsPlace}
 use Rattle.cms_model.specs.LawsUpdates as updates
 use Rattle.cms_model.specs.Minidisks.{File, Minidisk}
 use Rattle.cms_model.specs.Trees.{Image}
 use Rattle.cms_model.specs.declared.file.FileData.{FileData}
-use Rattle.cms_model.proofs.Changing.{place_changed}
-use Rattle.cms_machine.specs.Acts as acts
 use Rattle.cms_machine.specs.Acts.{Act, Done, saying, typed_line}
-use Rattle.cms_machine.specs.Runs.{Ran}
 use Rattle.cms_machine.specs.Slots.{Slot}
-use Rattle.cms_machine.specs.Steps.{Get, Good, MayGet, Offers, Outcome, ReadFault, faults_in}
-use Rattle.cms_machine.proofs.Single.{ran_still}
+use Rattle.cms_machine.specs.Steps.{Good, Outcome, ReadFault}
 use Rattle.cms_line.specs.Messages.{message_text}
 use Rattle.cms_line.specs.declared.message.Message.{Message}
 use Rattle.cms_line.specs.declared.message.Message.TheVariants.{M105, M120, M123}
@@ -34,19 +28,17 @@ use Rattle.cms_disk.specs.Getting.{GetsIn, IsDataOf}
 use Rattle.cms_disk.specs.declared.fault.DiskFault.{DiskFault}
 use Rattle.cms_disk.specs.declared.fault.DiskFault.TheVariants as failed
 use Rattle.cms_disk.specs.declared.unit.UnitInfo.{UnitInfo}
-use Rattle.cms_disk.proofs.Finding.{stands_tells}
-use Rattle.cms_held.specs.LawsHeld.{IsFound}
 use Rattle.cms_world.specs.Seen.{Seen}
-use Rattle.cms_search.specs.Calls.{Acts, Comes, Does, Holds, IsLater, IsUsable, Spot, at, course_of, holds, machine_of, refusal_tree, said, spot_at}
+use Rattle.cms_search.specs.Calls.{Acts, Comes, Does, IsLater, IsUsable, Spot, at, course_of, holds, machine_of, refusal_tree, said, spot_at}
 use Rattle.cms_search.specs.ChangeTold.{limited}
+use Rattle.cms_search.specs.DeviceSteps.{HasRead, handed, silently}
 use Rattle.cms_search.specs.Machine.{Course, Letter, Machine, letter_at, minidisk_in}
-use Rattle.cms_search.specs.Refusing.{device_fault, unread_code, unread_message}
-use Rattle.cms_search.specs.Releasing.{vdev_of}
+use Rattle.cms_search.specs.Refusals.{device_fault, unread_code, unread_message}
 use Rattle.cms_search.specs.Searches.{item_at, look_up, shelves_in}
 use Rattle.cms_search.specs.Shows.{Shows}
-use Rattle.cms_search.specs.Stepping.{HasRead, handed, silently}
 use Rattle.cms_search.specs.Tables.{Seated}
-use Rattle.cms_search.specs.Telling.{device_text}
+use Rattle.cms_search.specs.Texts.{device_text}
+use Rattle.cms_search.specs.Units.{vdev_of}
 use Rattle.cms_search.specs.declared.fault.SearchFault.{SearchFault}
 use Rattle.cms_search.specs.declared.fault.SearchFault.TheVariants as why
 use Rattle.cms_search.specs.declared.search.Found.{Found}
@@ -57,8 +49,8 @@ use Rattle.cms_search.specs.declared.state.End.TheVariants.{Edge, Memory}
 use Rattle.cms_search.specs.declared.state.State.{State}
 use Rattle.cms_search.proofs.Acts as joins
 use Rattle.cms_search.proofs.Acts.{acts_after, acts_done, acts_same, acts_stop, comes_in, comes_none, later_does, later_then, no_memory, usable_later}
-use Rattle.cms_search.proofs.Handing.{acts_never, later_read, named_so, passes_read}
-use Rattle.cms_search.proofs.Meeting.{holds_shows, letter_is, meets_at, readable_seat}
+use Rattle.cms_search.proofs.HandedRecords.{acts_never, later_read, named_so}
+use Rattle.cms_search.proofs.LetterDisks.{holds_shows, letter_is, meets_at, readable_seat}
 use Rattle.cms_search.proofs.Released.{vdev_is}
 use Rattle.cms_search.proofs.Stepped.{has_device}
 use Rattle.cms_files.specs.Files.{UnitFile, file_found, file_in, file_on, search_code, search_message, search_refused, unit_file}
@@ -68,11 +60,12 @@ use Rattle.cms_files.specs.declared.identifier.FileInput.{FileInput}
 use Rattle.cms_files.proofs.FileTold.{IsTold, file_told}
 use Rattle.cms_files.proofs.Found.{found_held}
 use Rattle.cms_files.proofs.OpenedFiles.{seat_with}
+use Rattle.cms_files.proofs.WholeReads.{ReadsAll, comes_read, seen_now, there_is}
 use Rattle.cms_decks.specs.Dumps.{file_with}
 use Rattle.cms_cards.specs.Calls.{fetched_of, with_refused}
-use Rattle.cms_cards.specs.Fetching.{Fetched, HasFile, IsRefused, fetch_on, fetching, not_taken, on_search, read_fitting, read_there, read_whole, refused, too_long, too_many}
-use Rattle.cms_cards.specs.declared.fetching.Fetched as came
-use Rattle.cms_cards.specs.declared.fetching.Fetched.TheVariants as came'
+use Rattle.cms_cards.specs.Fetch.{Fetched, HasFile, IsRefused, fetch_on, fetching, not_taken, on_search, read_fitting, read_there, read_whole, refused, too_long, too_many}
+use Rattle.cms_cards.specs.declared.fetch.Fetched as came
+use Rattle.cms_cards.specs.declared.fetch.Fetched.TheVariants as came'
 
 -- what a unit holds now
 abbrev current : Journal → ℕ → Image
@@ -122,55 +115,6 @@ search_off old new name t words place fault r x is refuses' same so = ⊎_elim n
     other : (fault ≡ why.Memory → ⊥) → Acts old new t x (fetched_of new.state name)
     other memory =
         refused_so old new name t (search_message words place fault) (pos (search_code fault)) r x (refuses'.does memory) (refuses'.went memory) same so (is memory)
-
--- ---- the device step
-
-abbrev seen_now : Spot → Seen → Spot
-seen_now old now = record { world = now; state = old.state }
-
--- on these units a tree reads all records of a file, and goes on so by this outcome
-pub record ReadsAll {R : Type 0} (units : List Slot) (t : Act R) (o : Outcome) (next : Act R) : Type 0 where
-  pub unit : ℕ
-  pub file : File
-  pub then' : Outcome → Act R
-  pub offers : Offers (slice_get units unit) file (length file.records)
-  pub tree : t ≡ acts.Does (Get unit file (length file.records)) then'
-  pub is : then' o ≡ next
-
--- units were read alone, and the step has come to this outcome
-comes_read : {R : Type 0} (old : Spot) (now : Seen) (t next : List Slot → Act R) (o : Outcome) → HasRead old.world now → ((n : ℕ) → MayGet n o)
-    → Counted old.world.faults (faults_in (o ∷ [])) now.faults → ((units : List Slot) → holds old units → ReadsAll units (t units) o (next units))
-    → Comes old (seen_now old now) t next
-comes_read old now t next o read may counted reads =
-    let new : Spot = seen_now old now in
-    let passes = passes_read old.world now read in
-    record {
-      each = λ units h.
-          let r = reads units h in
-          let ran = ran_still (at old units) (at new units) (Get r.unit r.file (length r.file.records)) o r.then' read.told counted refl (may (length r.file.records)) r.offers refl refl
-          (record { unread = refl; ended = refl }) refl in (
-            units,
-            (
-              subst (λ (told : Told). Holds told old.state.table units) (sym read.told) h,
-              subst (λ (z : Act _). Ran (at old units) (at new units) z (next units)) (sym r.tree)
-                  (subst (λ (z : Act _). Ran (at old units) (at new units) (acts.Does (Get r.unit r.file (length r.file.records)) r.then') z) r.is ran),
-            ),
-          );
-      later = passes.later;
-      usable = usable_later old new passes.later refl;
-    }
-
--- ---- the file
-
--- the file of a name, where the name has a place
-named_at : (name : Name) (fs : List File) (k : ℕ) → IsPlace name fs k → (f : File) × (file_named name fs ≡ Some f)
-named_at name [] k p = absurd (let less = p.within in omega arith)
-named_at name (f ∷ fs) k p = (slice_index_or (f ∷ fs) k f, (place_changed name (f ∷ fs) k p).found f)
-
-there_is : (image : Image) (d : Accessed) (m : Minidisk) (name : Name) (x : Option ℕ) → StandsIn image d m → place_of name d.volume ≡ x → (x ≡ None → ⊥)
-    → (f : File) × (file_named name m.files ≡ Some f)
-there_is image d m name None s is some = absurd (some refl)
-there_is image d m name (Some k) s is some = named_at name m.files k (subst (IsFound name m.files) is ((stands_tells image d m s).found name))
 
 -- a read that failed on its device was one of a file that is there
 abbrev fault_of : Result FileData DiskFault → DiskFault

@@ -36,22 +36,22 @@ use Rattle.cms_search.specs.declared.state.Course as declared
 use Rattle.cms_search.specs.declared.state.Course.TheVariants as course
 use Rattle.cms_search.specs.declared.state.End.{End}
 use Rattle.cms_search.proofs.Acts.{acts_same}
-use Rattle.cms_search.proofs.Meeting.{holds_shows}
-use Rattle.cms_search.proofs.Staying.{acts_refused}
+use Rattle.cms_search.proofs.LetterDisks.{holds_shows}
+use Rattle.cms_search.proofs.StateCalls.{acts_refused}
 use Rattle.cms_files.specs.Files.{UnitFile, file_on, no_file_code}
-use Rattle.cms_files.specs.Gathering.{AreData, IsGathered}
-use Rattle.cms_files.specs.declared.gathering.Gathered.{Gathered}
+use Rattle.cms_files.specs.Gathered.{AreData, IsGathered}
+use Rattle.cms_files.specs.declared.gathered.Gathered.{Gathered}
 use Rattle.cms_files.specs.Identifiers.{full_name}
 use Rattle.cms_files.specs.Told.{info_named}
-use Rattle.cms_files.specs.Updating.{last_update}
+use Rattle.cms_files.specs.Updates.{last_update}
 use Rattle.cms_files.proofs.FileTold.{IsTold, file_told}
 use Rattle.cms_files.proofs.LastUpdates.{acts_changed, last_tree}
 use Rattle.cms_decks.specs.Dumps.{load}
 use Rattle.cms_cards.specs.Calls.{number_told}
-use Rattle.cms_cards.specs.Fetching.{not_taken}
+use Rattle.cms_cards.specs.Fetch.{not_taken}
+use Rattle.cms_cards.specs.FirstDeck.{cards_file, number_for, on_deck, on_dump, read_file, write_cards, write_dump}
 use Rattle.cms_cards.specs.Lines.{read_line, read_operands}
-use Rattle.cms_cards.specs.Loading.{cards_file, number_for, on_deck, on_dump, read_file, write_cards, write_dump}
-use Rattle.cms_cards.specs.Punching.{Deck, card_of, record_cards}
+use Rattle.cms_cards.specs.PunchedCards.{Deck, card_of, record_cards}
 use Rattle.cms_cards.specs.declared.line.ReadTarget.{ReadTarget}
 
 -- ---- the number of READCARD's line

@@ -2,7 +2,7 @@
 use Rattle.std.proofs.Common.{◌≡◌, ◌+◌, ◌-◌, ◌∙◌, ℕ, List, ◌++◌, length, take, drop, replicate, ap, arith}
 use Rattle.std.proofs.lemmas.List.{drop-replicate, length-take}
 use Rattle.cms_text.specs.Bytes.{overwritten}
-use Rattle.cms_cards.specs.Punching.{card_of}
+use Rattle.cms_cards.specs.PunchedCards.{card_of}
 
 -- a text written over blanks
 pub card_filled : (text : List ℕ) → overwritten 0 (take 80 text) (replicate 80 0x40) ≡ card_of text

@@ -14,11 +14,11 @@ use Rattle.cms_search.specs.declared.state.End.{End}
 use Rattle.cms_search.specs.declared.state.State.{State}
 use Rattle.cms_decks.specs.Dumps.{file_with}
 use Rattle.cms_cards.specs.Cards.{Dealt, cards, dealt}
-use Rattle.cms_cards.specs.Fetching.{Fetched, HasFile, IsRefused}
-use Rattle.cms_cards.specs.Punching.{Decks}
+use Rattle.cms_cards.specs.Fetch.{Fetched, HasFile, IsRefused}
+use Rattle.cms_cards.specs.PunchedCards.{Decks}
 use Rattle.cms_cards.specs.declared.command.CardCommand.{CardCommand}
-use Rattle.cms_cards.specs.declared.fetching.Fetched as declared
-use Rattle.cms_cards.specs.declared.fetching.Fetched.TheVariants as came
+use Rattle.cms_cards.specs.declared.fetch.Fetched as declared
+use Rattle.cms_cards.specs.declared.fetch.Fetched.TheVariants as came
 
 -- what fetching the file of a name came to, with the state that is left
 abbrev pub fetched_of : State → Name → Meaning declared.Fetched Fetched

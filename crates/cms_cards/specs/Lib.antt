@@ -1,6 +1,6 @@
 pub mod Lines
-pub mod Punching
-pub mod Fetching
-pub mod Loading
+pub mod PunchedCards
+pub mod Fetch
+pub mod FirstDeck
 pub mod Cards
 pub mod Calls

@@ -5,8 +5,8 @@ ghost use Rattle.cms_search.specs.Calls.{Acts, IsUsable, spot};
 ghost use Rattle.cms_cards.specs.Calls.{cards_tree, dealt_of};
 
 use crate::disk::run_disk;
-use crate::punching::run_punch;
-use crate::reading::run_readcard;
+use crate::punch::run_punch;
+use crate::readcard::run_readcard;
 use cms_decks::Reader;
 use cms_line::Tokens;
 use cms_search::{Course, End, State};

@@ -3,11 +3,11 @@
 
 mod command;
 mod disk;
-mod fetching;
+mod fetch;
+mod first_deck;
 mod line;
-mod loading;
-mod punching;
-mod reading;
+mod punch;
+mod readcard;
 
 pub use cms_decks::{Card, Deck, Reader, read_deck, write_deck};
 pub use command::{CardCommand, run};

@@ -4,8 +4,8 @@
 ghost use Rattle.std.specs.Prelude.{◌≡◌, if◌then◌else◌};
 ghost use Rattle.cms_session.specs.Statuses.{code_of};
 
+mod failures;
 mod help;
-mod telling;
 
 use cms_edit::Editor;
 use cms_ext::{ExtList, Extension, Tally};
@@ -14,13 +14,13 @@ use cms_names::Part;
 use cms_session::{Status, WordFault, run_with};
 use cms_text::coded;
 use cms_world::Argv;
+use failures::{tell_ending, tell_world};
 use help::{HELP, VERSION};
 use std::alloc::{AllocError, Global};
 use std::fs::File;
 use std::io::{ErrorKind, IsTerminal};
 use std::process::ExitCode;
 use std::{env, io};
-use telling::{tell_ending, tell_world};
 
 const FOLDER: &str = "/";
 

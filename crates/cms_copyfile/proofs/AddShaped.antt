@@ -28,7 +28,7 @@ use Rattle.cms_search.specs.Searches.{item_at}
 use Rattle.cms_search.specs.Shows.{Shows}
 use Rattle.cms_search.specs.Tables.{Accesses, Seated}
 use Rattle.cms_search.specs.declared.fault.SearchFault.{SearchFault}
-use Rattle.cms_search.proofs.Meeting.{holds_shows}
+use Rattle.cms_search.proofs.LetterDisks.{holds_shows}
 use Rattle.cms_files.specs.Files.{UnitFile, file_on}
 use Rattle.cms_files.specs.Told.{IsInfo, info_named, stored_named}
 use Rattle.cms_copyfile.specs.Copyfile.{change_with, there_is}
@@ -41,7 +41,7 @@ use Rattle.cms_copyfile.specs.declared.copy.FileCopy.{FileCopy}
 use Rattle.cms_copyfile.specs.declared.line.CopyLine.{CopyLine}
 use Rattle.cms_copyfile.specs.declared.measure.Measure.{Measure}
 use Rattle.cms_copyfile.specs.declared.output.CopyPlan.{CopyPlan}
-use Rattle.cms_copyfile.specs.declared.writing.CopyWrite.TheVariants.{Added}
+use Rattle.cms_copyfile.specs.declared.draft.CopyWrite.TheVariants.{Added}
 use Rattle.cms_copyfile.proofs.OwnFile.{extended_so, extended_there}
 
 -- the change adds them

@@ -23,39 +23,39 @@ use Rattle.cms_disk.specs.declared.fault.DiskFault.{DiskFault}
 use Rattle.cms_disk.specs.declared.fault.DiskFault.TheVariants as failed
 use Rattle.cms_disk.proofs.FilePut.{given_up}
 use Rattle.cms_search.specs.Calls.{Acts, Comes, Holds, IsUsable, Spot, Usable, at, holds, machine_of}
+use Rattle.cms_search.specs.DeviceSteps.{HasRead, Stepped, changing_by, changing_of, changing_tree, failing}
+use Rattle.cms_search.specs.FileWrites.{Updated}
 use Rattle.cms_search.specs.Machine.{Letter, Machine, letter_at}
-use Rattle.cms_search.specs.Putting.{Updated}
-use Rattle.cms_search.specs.Releasing.{vdev_of}
 use Rattle.cms_search.specs.Searches.{item_at}
 use Rattle.cms_search.specs.Seats.{HasDisk}
-use Rattle.cms_search.specs.Stepping.{HasRead, Stepped, changing_by, changing_of, changing_tree, failing}
 use Rattle.cms_search.specs.Tables.{Accesses, Seated}
+use Rattle.cms_search.specs.Units.{vdev_of}
 use Rattle.cms_search.specs.declared.state.End.{End}
 use Rattle.cms_search.specs.declared.state.State.{State}
-use Rattle.cms_search.specs.declared.stepping.Changed as outcomes
+use Rattle.cms_search.specs.declared.device_step.Changed as outcomes
 use Rattle.cms_search.proofs.Acts.{acts_same, later_then, rose_from}
-use Rattle.cms_search.proofs.Changing.{changed_units, steps_kept}
-use Rattle.cms_search.proofs.Handing.{later_read}
-use Rattle.cms_search.proofs.Holding.{usable_grown}
-use Rattle.cms_search.proofs.Meeting.{meets_at}
+use Rattle.cms_search.proofs.Changes.{changed_units, steps_kept}
+use Rattle.cms_search.proofs.HandedRecords.{later_read}
+use Rattle.cms_search.proofs.IdleEvents.{usable_grown}
+use Rattle.cms_search.proofs.LetterDisks.{meets_at}
 use Rattle.cms_search.proofs.Seats.{letters_with, table_with, with_disk_is}
 use Rattle.cms_search.proofs.Stepped.{device_is, if_some, later_changes, usable_with}
 use Rattle.cms_files.proofs.Updates.{then_updated}
-use Rattle.cms_files.specs.Opening.{IsOpened}
-use Rattle.cms_files.specs.Updating.{names_of, updated, updated_of, updating, vdev_at}
-use Rattle.cms_files.specs.declared.opening.OpenFile.{OpenFile}
-use Rattle.cms_files.specs.declared.updating.Updated as declared
+use Rattle.cms_files.specs.OpenFiles.{IsOpened}
+use Rattle.cms_files.specs.Updates.{names_of, updated, updated_of, updating, vdev_at}
+use Rattle.cms_files.specs.declared.open_files.OpenFile.{OpenFile}
+use Rattle.cms_files.specs.declared.update.Updated as declared
 use Rattle.cms_world.specs.Seen.{Seen}
-use Rattle.cms_copyfile.specs.Ending.{ChangesAs, WritesAll, WroteAll}
+use Rattle.cms_copyfile.specs.Drafts.{change_as, changing}
 use Rattle.cms_copyfile.specs.FileCopies.{IsFileCopy}
-use Rattle.cms_copyfile.specs.Writing.{change_as, changing}
+use Rattle.cms_copyfile.specs.Outcomes.{ChangesAs, WritesAll, WroteAll}
 use Rattle.cms_copyfile.specs.declared.copy.FileCopy.{FileCopy}
 use Rattle.cms_copyfile.specs.declared.line.CopyLine.{CopyLine}
-use Rattle.cms_copyfile.specs.declared.writing.CopyTarget.{CopyTarget}
-use Rattle.cms_copyfile.specs.declared.writing.CopyWrite.{CopyWrite}
-use Rattle.cms_copyfile.specs.declared.writing.CopyWrite.TheVariants.{Added, Whole}
-use Rattle.cms_copyfile.specs.declared.writing.Written.{Written}
-use Rattle.cms_copyfile.specs.declared.writing.Written.TheVariants.{Altered, Came, Unread}
+use Rattle.cms_copyfile.specs.declared.draft.CopyTarget.{CopyTarget}
+use Rattle.cms_copyfile.specs.declared.draft.CopyWrite.{CopyWrite}
+use Rattle.cms_copyfile.specs.declared.draft.CopyWrite.TheVariants.{Added, Whole}
+use Rattle.cms_copyfile.specs.declared.draft.Written.{Written}
+use Rattle.cms_copyfile.specs.declared.draft.Written.TheVariants.{Altered, Came, Unread}
 use Rattle.cms_copyfile.proofs.CopyInput.{input_at}
 use Rattle.cms_copyfile.proofs.FilesCopied.{copying_at}
 use Rattle.cms_copyfile.proofs.OneRead.{acts_by, acts_by_stop, acts_never_so, behind_read, first, tree_at, wanted_in, wanted_low, whole}

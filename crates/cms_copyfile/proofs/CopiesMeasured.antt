@@ -8,10 +8,10 @@ use Rattle.cms_fields.specs.Limits.{longest_record}
 use Rattle.cms_names.specs.declared.name.Format.TheVariants.{V}
 use Rattle.cms_model.specs.Records.{Fits}
 use Rattle.cms_search.specs.Calls.{Spot}
-use Rattle.cms_search.proofs.Meeting.{meets_at}
+use Rattle.cms_search.proofs.LetterDisks.{meets_at}
 use Rattle.cms_files.specs.Files.{UnitFile}
-use Rattle.cms_files.specs.Opening.{IsOpened}
-use Rattle.cms_files.specs.declared.opening.OpenFile.{OpenFile}
+use Rattle.cms_files.specs.OpenFiles.{IsOpened}
+use Rattle.cms_files.specs.declared.open_files.OpenFile.{OpenFile}
 use Rattle.cms_copyfile.specs.FileCopies.{IsFileCopy, plan_for}
 use Rattle.cms_copyfile.specs.Lines.{IsCopyStyle}
 use Rattle.cms_copyfile.specs.Measures.{measured}

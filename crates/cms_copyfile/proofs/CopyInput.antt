@@ -28,12 +28,12 @@ use Rattle.cms_disk.specs.Drafts.{WritesAside}
 use Rattle.cms_search.specs.Calls.{Spot, Usable, holds, machine_of}
 use Rattle.cms_search.specs.Searches.{item_at}
 use Rattle.cms_search.specs.Tables.{Accesses, Seated}
-use Rattle.cms_search.proofs.Handing.{named_so, open_seat}
-use Rattle.cms_search.proofs.Meeting.{letter_is, meets_at}
+use Rattle.cms_search.proofs.HandedRecords.{named_so, open_seat}
+use Rattle.cms_search.proofs.LetterDisks.{letter_is, meets_at}
 use Rattle.cms_search.proofs.Stepped.{has_device}
 use Rattle.cms_files.specs.Files.{UnitFile, unit_file}
-use Rattle.cms_files.specs.Opening.{IsOpened}
-use Rattle.cms_files.specs.declared.opening.OpenFile.{OpenFile}
+use Rattle.cms_files.specs.OpenFiles.{IsOpened}
+use Rattle.cms_files.specs.declared.open_files.OpenFile.{OpenFile}
 use Rattle.cms_copyfile.specs.Copies.{StayBeside}
 use Rattle.cms_copyfile.specs.FileCopies.{IsCopying}
 use Rattle.cms_copyfile.specs.declared.copy.FileCopy.{FileCopy}

@@ -28,8 +28,8 @@ use Rattle.cms_disk.specs.declared.fault.DiskFault.TheVariants as failed
 use Rattle.cms_copyfile.specs.Copies.{CopiedTo, CopiesFrom, FailsOn, HasLast, PutsCopies, ReadsWell, StayBeside, copies_from, copies_to}
 use Rattle.cms_copyfile.specs.Outputs.{copies_in}
 use Rattle.cms_copyfile.specs.Records.{copied}
-use Rattle.cms_copyfile.specs.declared.copying.CopyFault.{CopyFault}
-use Rattle.cms_copyfile.specs.declared.copying.CopyFault.TheVariants as why
+use Rattle.cms_copyfile.specs.declared.second_pass.CopyFault.{CopyFault}
+use Rattle.cms_copyfile.specs.declared.second_pass.CopyFault.TheVariants as why
 use Rattle.cms_copyfile.specs.declared.output.CopyPlan.{CopyPlan}
 use Rattle.cms_copyfile.proofs.Beside.{left_there}
 use Rattle.cms_copyfile.proofs.Passes.{Hands, drop_last, drop_none}

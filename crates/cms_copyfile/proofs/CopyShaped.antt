@@ -28,7 +28,7 @@ use Rattle.cms_copyfile.specs.declared.line.Existing.TheVariants.{Extended, Refu
 use Rattle.cms_copyfile.specs.declared.measure.Measure.{Measure}
 use Rattle.cms_copyfile.specs.declared.output.CopyPlan.{CopyPlan}
 use Rattle.cms_copyfile.specs.declared.output.FileForm.{FileForm}
-use Rattle.cms_copyfile.specs.declared.writing.CopyWrite.TheVariants.{Whole}
+use Rattle.cms_copyfile.specs.declared.draft.CopyWrite.TheVariants.{Whole}
 use Rattle.cms_copyfile.proofs.FilesCopied.{number_told}
 
 pub fits_in : (format : Format) (size : ℕ) (records all : List (List ℕ)) → All (Fits format size) records → All (Fits format (length_of format size all)) records

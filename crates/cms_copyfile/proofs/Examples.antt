@@ -31,7 +31,7 @@ use Rattle.cms_operands.specs.Refusals.{message_of}
 use Rattle.cms_search.specs.Machine.{Machine}
 use Rattle.cms_search.specs.Searches.{places_from}
 use Rattle.cms_files.specs.Identifiers.{name_choice, output_name}
-use Rattle.cms_files.specs.Updating.{updating_each}
+use Rattle.cms_files.specs.Updates.{updating_each}
 use Rattle.cms_search.proofs.Machines.{Answer, answer, machine, moment, types, words}
 use Rattle.cms_files.proofs.Machines.{disk, file, one_disk, stamp, two_disks, unit, units_in, volume}
 use Rattle.cms_copyfile.specs.Copyfile.{copyfile}

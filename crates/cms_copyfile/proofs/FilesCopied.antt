@@ -10,33 +10,33 @@ use Rattle.cms_machine.specs.Slots.{Slot}
 use Rattle.cms_line.specs.declared.token.Token.{Token}
 use Rattle.cms_edf.specs.declared.held.FileInfo.{FileInfo}
 use Rattle.cms_search.specs.Calls.{Acts, Meaning, Spot, holds, machine_of}
+use Rattle.cms_search.specs.DeviceSteps.{Stepped}
 use Rattle.cms_search.specs.Machine.{Letter, Machine, letter_at, minidisk_in}
 use Rattle.cms_search.specs.Searches.{Shelf, Shelves, item_at, shelves_in}
 use Rattle.cms_search.specs.Shows.{Shows}
-use Rattle.cms_search.specs.Stepping.{Stepped}
 use Rattle.cms_search.specs.Tables.{Accesses, letters_of, shelf_of, writing}
 use Rattle.cms_search.specs.declared.fault.SearchFault.{SearchFault}
 use Rattle.cms_search.specs.declared.fault.SearchFault.TheVariants.{NotFound}
 use Rattle.cms_search.specs.declared.state.End.{End}
 use Rattle.cms_search.proofs.Acts.{acts_same}
-use Rattle.cms_search.proofs.Meeting.{holds_shows}
+use Rattle.cms_search.proofs.LetterDisks.{holds_shows}
 use Rattle.cms_search.proofs.Shown.{shelves_shown}
 use Rattle.cms_search.proofs.Stepped.{written_at}
 use Rattle.cms_files.specs.Files.{UnitFile, file_in, file_on, search_refused, unit_file, writable}
 use Rattle.cms_files.specs.Told.{IsInfo, info_named}
-use Rattle.cms_files.specs.Updating.{on_step, stopping, telling}
-use Rattle.cms_files.specs.declared.updating.Updated.{Updated}
+use Rattle.cms_files.specs.Updates.{on_step, stopping, telling}
+use Rattle.cms_files.specs.declared.update.Updated.{Updated}
 use Rattle.cms_files.proofs.FileTold.{IsTold, file_told}
 use Rattle.cms_files.proofs.TakenFiles.{no_shelf, open_shelf}
 use Rattle.cms_copyfile.specs.Copyfile.{Copying, copy_erased, copy_found, copy_into, copy_of, copy_records, copy_told, copying_of, file_at, input_shown, is_refused, letter_for, output_shown, there_already, there_is, too_few, with_copying}
 use Rattle.cms_copyfile.specs.FileCopies.{IsCopying, IsFileCopy, IsInfoOf, copied_to, copy_number}
-use Rattle.cms_copyfile.specs.Telling.{copy_text}
+use Rattle.cms_copyfile.specs.Shown.{copy_text}
 use Rattle.cms_copyfile.specs.declared.copy.FileCopy.{FileCopy}
-use Rattle.cms_copyfile.specs.declared.finding.NamedFile.{NamedFile}
+use Rattle.cms_copyfile.specs.declared.named_files.NamedFile.{NamedFile}
 use Rattle.cms_copyfile.specs.declared.line.CopyLine.{CopyLine}
 use Rattle.cms_copyfile.specs.declared.line.Existing.{Existing}
 use Rattle.cms_copyfile.specs.declared.line.Existing.TheVariants.{Extended, Refused, Replaced}
-use Rattle.cms_copyfile.specs.declared.telling.FileShown.{FileShown}
+use Rattle.cms_copyfile.specs.declared.shown.FileShown.{FileShown}
 
 -- ---- the machine has the files
 

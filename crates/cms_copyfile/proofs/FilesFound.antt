@@ -22,7 +22,7 @@ use Rattle.cms_search.specs.Tables.{Accesses, Seated, letters_of, shelf_of, shel
 use Rattle.cms_search.specs.declared.fault.SearchFault.{SearchFault}
 use Rattle.cms_search.specs.declared.fault.SearchFault.TheVariants as why
 use Rattle.cms_search.specs.declared.search.Found.{Found}
-use Rattle.cms_search.proofs.Searching.{item_at_map}
+use Rattle.cms_search.proofs.Searches.{item_at_map}
 use Rattle.cms_search.proofs.Shown.{shelves_shown, told_listed}
 use Rattle.cms_search.proofs.Stepped.{written_at}
 use Rattle.cms_files.specs.Files.{some_found, writable}
@@ -31,8 +31,8 @@ use Rattle.cms_files.specs.Told.{info_found}
 use Rattle.cms_files.specs.declared.identifier.NameChoice.{NameChoice}
 use Rattle.cms_files.proofs.TakenFiles.{no_shelf, open_shelf}
 use Rattle.cms_copyfile.specs.Copyfile.{files_copied, files_named, listed_at, named_at, output_is_written}
-use Rattle.cms_copyfile.specs.Finding.{pattern_for}
-use Rattle.cms_copyfile.specs.declared.finding.NamedFile.{NamedFile}
+use Rattle.cms_copyfile.specs.NamedFiles.{pattern_for}
+use Rattle.cms_copyfile.specs.declared.named_files.NamedFile.{NamedFile}
 use Rattle.cms_copyfile.specs.declared.line.CopyLine.{CopyLine}
 
 -- ---- patterns

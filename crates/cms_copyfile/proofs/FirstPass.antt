@@ -13,18 +13,18 @@ use Rattle.cms_disk.specs.Cursors.{HasLeft}
 use Rattle.cms_disk.specs.declared.fault.DiskFault.{DiskFault}
 use Rattle.cms_disk.specs.declared.fault.DiskFault.TheVariants as failed
 use Rattle.cms_search.specs.Calls.{Acts, Comes, Spot, at, holds, machine_of}
-use Rattle.cms_search.specs.Refusing.{unread}
-use Rattle.cms_search.specs.Releasing.{vdev_of}
-use Rattle.cms_search.specs.Stepping.{HasRead, Stepped, failing}
+use Rattle.cms_search.specs.DeviceSteps.{HasRead, Stepped, failing}
+use Rattle.cms_search.specs.Refusals.{unread}
+use Rattle.cms_search.specs.Units.{vdev_of}
 use Rattle.cms_search.specs.declared.state.End.{End}
 use Rattle.cms_search.proofs.Acts.{acts_after}
-use Rattle.cms_search.proofs.Handing.{later_read}
-use Rattle.cms_search.proofs.Meeting.{meets_at}
+use Rattle.cms_search.proofs.HandedRecords.{later_read}
+use Rattle.cms_search.proofs.LetterDisks.{meets_at}
 use Rattle.cms_search.proofs.Stepped.{device_is}
-use Rattle.cms_files.specs.Opening.{IsOpened}
-use Rattle.cms_files.specs.Updating.{stopping, updated_of}
-use Rattle.cms_files.specs.declared.opening.OpenFile.{OpenFile}
-use Rattle.cms_files.specs.declared.updating.Updated as declared
+use Rattle.cms_files.specs.OpenFiles.{IsOpened}
+use Rattle.cms_files.specs.Updates.{stopping, updated_of}
+use Rattle.cms_files.specs.declared.open_files.OpenFile.{OpenFile}
+use Rattle.cms_files.specs.declared.update.Updated as declared
 use Rattle.cms_world.specs.Seen.{Seen}
 use Rattle.cms_copyfile.specs.Copyfile.{change_with}
 use Rattle.cms_copyfile.specs.FileCopies.{IsFileCopy, copied_to}

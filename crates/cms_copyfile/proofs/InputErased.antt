@@ -6,15 +6,15 @@ use Rattle.cms_machine.specs.Acts.{Act, Done, bind}
 use Rattle.cms_machine.specs.Slots.{Slot}
 use Rattle.cms_line.specs.declared.token.Token.{Token}
 use Rattle.cms_search.specs.Calls.{Acts, Spot, machine_of}
+use Rattle.cms_search.specs.DeviceSteps.{Did, Stepped}
 use Rattle.cms_search.specs.Machine.{Machine}
-use Rattle.cms_search.specs.Stepping.{Did, Stepped}
 use Rattle.cms_search.specs.declared.state.Course.{Course}
 use Rattle.cms_search.specs.declared.state.End.{End}
 use Rattle.cms_search.proofs.Acts.{acts_after, acts_done, acts_same, acts_stop, comes_in, comes_none}
-use Rattle.cms_files.specs.Consuming.{consuming}
-use Rattle.cms_files.specs.Updating.{updated_of}
-use Rattle.cms_files.specs.declared.updating.Updated.{Updated}
-use Rattle.cms_files.specs.declared.updating.Updated.TheVariants as came
+use Rattle.cms_files.specs.ModeThree.{consuming}
+use Rattle.cms_files.specs.Updates.{updated_of}
+use Rattle.cms_files.specs.declared.update.Updated.{Updated}
+use Rattle.cms_files.specs.declared.update.Updated.TheVariants as came
 use Rattle.cms_copyfile.specs.Copyfile.{copy_erased, copy_into, erasing, may_erase, with_copying}
 use Rattle.cms_copyfile.specs.FileCopies.{IsCopying, IsFileCopy, copied_to, may_erase_input}
 use Rattle.cms_copyfile.specs.declared.copy.FileCopy.{FileCopy}

@@ -26,11 +26,11 @@ use Rattle.cms_disk.specs.Cursors.{HoldLeft, fixed_of, first_begun, unread}
 use Rattle.cms_disk.specs.Disks.{place_of}
 use Rattle.cms_search.specs.Calls.{Spot, holds, machine_of}
 use Rattle.cms_search.specs.Tables.{Accesses, Seated}
-use Rattle.cms_search.proofs.Meeting.{holds_shows}
+use Rattle.cms_search.proofs.LetterDisks.{holds_shows}
 use Rattle.cms_search.proofs.Released.{get_map}
-use Rattle.cms_files.specs.Opening.{IsOpened}
+use Rattle.cms_files.specs.OpenFiles.{IsOpened}
 use Rattle.cms_files.specs.Told.{info_named}
-use Rattle.cms_files.specs.declared.opening.OpenFile.{OpenFile}
+use Rattle.cms_files.specs.declared.open_files.OpenFile.{OpenFile}
 use Rattle.cms_copyfile.specs.FileCopies.{IsCopying, IsFileCopy}
 use Rattle.cms_copyfile.specs.Told.{IsLeftAs}
 use Rattle.cms_copyfile.specs.declared.copy.FileCopy.{FileCopy}

@@ -20,21 +20,21 @@ use Rattle.cms_search.specs.Seats.{HasDevice}
 use Rattle.cms_search.specs.Tables.{Seated}
 use Rattle.cms_search.specs.declared.fault.SearchFault.{SearchFault}
 use Rattle.cms_search.specs.declared.state.State.{State}
-use Rattle.cms_search.proofs.Meeting.{letter_is, meets_at}
+use Rattle.cms_search.proofs.LetterDisks.{letter_is, meets_at}
 use Rattle.cms_files.specs.Files.{UnitFile, file_on, unit_file}
-use Rattle.cms_files.specs.Opening.{IsOpened}
-use Rattle.cms_files.specs.declared.opening.OpenFile.{OpenFile}
+use Rattle.cms_files.specs.OpenFiles.{IsOpened}
+use Rattle.cms_files.specs.declared.open_files.OpenFile.{OpenFile}
 use Rattle.cms_copyfile.specs.Copyfile.{file_at, there_is}
-use Rattle.cms_copyfile.specs.Ending.{ChangesAs, IsWritten, WroteAll}
+use Rattle.cms_copyfile.specs.Drafts.{CameTo, CopiesInto, HaveRecords, WritesSeat, WritesTo, change_as, changing}
 use Rattle.cms_copyfile.specs.FileCopies.{IsCopying, IsFileCopy, copied_to}
 use Rattle.cms_copyfile.specs.OneCopy.{AreShaped}
+use Rattle.cms_copyfile.specs.Outcomes.{ChangesAs, IsWritten, WroteAll}
 use Rattle.cms_copyfile.specs.Outputs.{copies_in}
-use Rattle.cms_copyfile.specs.Writing.{CameTo, CopiesInto, HaveRecords, WritesSeat, WritesTo, change_as, changing}
 use Rattle.cms_copyfile.specs.declared.copy.FileCopy.{FileCopy}
 use Rattle.cms_copyfile.specs.declared.line.CopyLine.{CopyLine}
 use Rattle.cms_copyfile.specs.declared.output.CopyPlan.{CopyPlan}
-use Rattle.cms_copyfile.specs.declared.writing.CopyTarget.{CopyTarget}
-use Rattle.cms_copyfile.specs.declared.writing.Written.{Written}
+use Rattle.cms_copyfile.specs.declared.draft.CopyTarget.{CopyTarget}
+use Rattle.cms_copyfile.specs.declared.draft.Written.{Written}
 use Rattle.cms_copyfile.proofs.AllWritten.{wrote_all}
 use Rattle.cms_copyfile.proofs.CopyInput.{input_at, input_stays}
 use Rattle.cms_copyfile.proofs.FilesCopied.{copying_at}

@@ -11,22 +11,22 @@ use Rattle.cms_machine.proofs.Join.{broke_bind, broke_then, ran_bind, ran_then}
 use Rattle.cms_machine.proofs.Single.{ran_still}
 use Rattle.cms_line.specs.declared.token.Token.{Token}
 use Rattle.cms_search.specs.Calls.{Acts, Comes, IsLater, IsUsable, Meaning, Spot, at, holds, machine_of}
+use Rattle.cms_search.specs.DeviceSteps.{HasRead, Stepped, failing, handed, reading, silently}
 use Rattle.cms_search.specs.Machine.{Machine}
-use Rattle.cms_search.specs.Releasing.{vdev_of}
-use Rattle.cms_search.specs.Stepping.{HasRead, Stepped, failing, handed, reading, silently}
+use Rattle.cms_search.specs.Units.{vdev_of}
 use Rattle.cms_search.specs.declared.state.End.{End}
 use Rattle.cms_search.specs.declared.state.End.TheVariants.{Memory}
 use Rattle.cms_search.proofs.Acts.{cut_off, later_then, rose_from}
-use Rattle.cms_search.proofs.Handing.{later_read}
+use Rattle.cms_search.proofs.HandedRecords.{later_read}
 use Rattle.cms_files.specs.Files.{UnitFile}
-use Rattle.cms_files.specs.Opening.{IsOpened}
-use Rattle.cms_files.specs.Updating.{updating}
-use Rattle.cms_files.specs.declared.opening.OpenFile.{OpenFile}
-use Rattle.cms_files.specs.declared.updating.Updated as declared
+use Rattle.cms_files.specs.OpenFiles.{IsOpened}
+use Rattle.cms_files.specs.Updates.{updating}
+use Rattle.cms_files.specs.declared.open_files.OpenFile.{OpenFile}
+use Rattle.cms_files.specs.declared.update.Updated as declared
 use Rattle.cms_world.specs.Seen.{Seen}
 use Rattle.cms_copyfile.specs.Copyfile.{change_with, copy_records, with_copying}
-use Rattle.cms_copyfile.specs.Ending.{ChangesAs}
 use Rattle.cms_copyfile.specs.FileCopies.{IsCopying, IsFileCopy, copied_to}
+use Rattle.cms_copyfile.specs.Outcomes.{ChangesAs}
 use Rattle.cms_copyfile.specs.Outputs.{extended, wanted_of}
 use Rattle.cms_copyfile.specs.declared.copy.FileCopy.{FileCopy}
 use Rattle.cms_copyfile.specs.declared.line.CopyLine.{CopyLine}

@@ -24,7 +24,7 @@ use Rattle.cms_disk.specs.Disks.{Accessed, IsLookedAt}
 use Rattle.cms_disk.specs.Drafts.{Stands, WritesAside}
 use Rattle.cms_disk.proofs.Leaving.{covers_looked}
 use Rattle.cms_disk.proofs.Standing.{state_stands}
-use Rattle.cms_search.proofs.Changing.{looked_changed}
+use Rattle.cms_search.proofs.Changes.{looked_changed}
 
 -- ---- the piece
 

@@ -38,26 +38,26 @@ use Rattle.cms_disk.proofs.Filling.{same_some}
 use Rattle.cms_disk.proofs.FilePut.{alters_same, changed_behind, given_up, refused_so}
 use Rattle.cms_disk.proofs.Standing.{minidisk_same}
 use Rattle.cms_search.specs.Calls.{Usable}
-use Rattle.cms_search.specs.Drafting.{CommitsTo, DraftsMoreTo, DraftsTo, IsPlannedOn, MayCommit}
+use Rattle.cms_search.specs.Drafts.{CommitsTo, DraftsMoreTo, DraftsTo, IsPlannedOn, MayCommit}
 use Rattle.cms_search.specs.Searches.{item_at}
 use Rattle.cms_search.specs.Seats.{HasDevice, HasDisk}
 use Rattle.cms_search.specs.Tables.{Accesses, Seated, letters_of, seat_with, with_disk, writing}
-use Rattle.cms_search.proofs.Meeting.{readable_seat}
+use Rattle.cms_search.proofs.LetterDisks.{readable_seat}
 use Rattle.cms_search.proofs.Seats.{has_same, item_here, item_within, seat_there, table_with, with_disk_is, with_disk_twice}
 use Rattle.cms_search.proofs.Stepped.{has_device, if_some, written_at}
 use Rattle.cms_copyfile.proofs.CopyPasses.{units_grown}
 use Rattle.cms_copyfile.specs.Copies as copies
 use Rattle.cms_copyfile.specs.Copies.{CopiesFrom, FailsOn, PutsCopies, ReadsWell, StayBeside}
+use Rattle.cms_copyfile.specs.Drafts.{CameTo, CopyFailsOn, FillFailsOn, FillsTo, FinishesTo, FitsVolume, HaveRecords, IsToHave, MayWrite, PlansAs, PlansSeat, PlansTo, StillGoes, WriteFailsOn, WritesTo, answer_in, change_as, changing}
 use Rattle.cms_copyfile.specs.Outputs.{copies_in}
-use Rattle.cms_copyfile.specs.Writing.{CameTo, CopyFailsOn, FillFailsOn, FillsTo, FinishesTo, FitsVolume, HaveRecords, IsToHave, MayWrite, PlansAs, PlansSeat, PlansTo, StillGoes, WriteFailsOn, WritesTo, answer_in, change_as, changing}
-use Rattle.cms_copyfile.specs.declared.copying.CopyFault.{CopyFault}
-use Rattle.cms_copyfile.specs.declared.copying.CopyFault.TheVariants as why
+use Rattle.cms_copyfile.specs.declared.second_pass.CopyFault.{CopyFault}
+use Rattle.cms_copyfile.specs.declared.second_pass.CopyFault.TheVariants as why
 use Rattle.cms_copyfile.specs.declared.output.CopyPlan.{CopyPlan}
-use Rattle.cms_copyfile.specs.declared.writing.CopyTarget.{CopyTarget}
-use Rattle.cms_copyfile.specs.declared.writing.CopyWrite.{CopyWrite}
-use Rattle.cms_copyfile.specs.declared.writing.CopyWrite.TheVariants.{Added, Whole}
-use Rattle.cms_copyfile.specs.declared.writing.Written.{Written}
-use Rattle.cms_copyfile.specs.declared.writing.Written.TheVariants.{Altered, Came, Unread as NotRead}
+use Rattle.cms_copyfile.specs.declared.draft.CopyTarget.{CopyTarget}
+use Rattle.cms_copyfile.specs.declared.draft.CopyWrite.{CopyWrite}
+use Rattle.cms_copyfile.specs.declared.draft.CopyWrite.TheVariants.{Added, Whole}
+use Rattle.cms_copyfile.specs.declared.draft.Written.{Written}
+use Rattle.cms_copyfile.specs.declared.draft.Written.TheVariants.{Altered, Came, Unread as NotRead}
 
 -- ---- the disk of a letter
 

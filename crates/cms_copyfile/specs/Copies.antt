@@ -14,8 +14,8 @@ use Rattle.cms_disk.specs.Disks.{Accessed, IsMinidisk}
 use Rattle.cms_disk.specs.Drafts.{GoesOn, IsGivenUp, WritesAside}
 use Rattle.cms_copyfile.specs.Outputs.{copies_in}
 use Rattle.cms_copyfile.specs.Records.{copied}
-use Rattle.cms_copyfile.specs.declared.copying.CopyFault.{CopyFault}
-use Rattle.cms_copyfile.specs.declared.copying.CopyFault.TheVariants as why
+use Rattle.cms_copyfile.specs.declared.second_pass.CopyFault.{CopyFault}
+use Rattle.cms_copyfile.specs.declared.second_pass.CopyFault.TheVariants as why
 use Rattle.cms_copyfile.specs.declared.output.CopyPlan.{CopyPlan}
 
 -- these blocks of a unit have the same bytes at every moment at which the minidisk stands and was written beside since

@@ -12,25 +12,25 @@ use Rattle.cms_machine.specs.Acts.{Act, Done, bind}
 use Rattle.cms_line.specs.declared.message.Message.TheVariants.{M121}
 use Rattle.cms_line.specs.declared.token.Token.{Token}
 use Rattle.cms_operands.specs.declared.operand.WriteMode.{WriteMode}
+use Rattle.cms_search.specs.DeviceSteps.{Did, Failed, Stepped, failing, reading, silently}
 use Rattle.cms_search.specs.Machine.{Course, Machine, letter_at, refusal}
-use Rattle.cms_search.specs.Refusing.{on_line}
-use Rattle.cms_search.specs.Releasing.{vdev_of}
+use Rattle.cms_search.specs.Refusals.{on_line}
 use Rattle.cms_search.specs.Searches.{Listed, Shelves, item_at, search, shelves_in}
-use Rattle.cms_search.specs.Stepping.{Did, Failed, Stepped, failing, reading, silently}
+use Rattle.cms_search.specs.Units.{vdev_of}
 use Rattle.cms_search.specs.declared.fault.SearchFault.{SearchFault}
 use Rattle.cms_search.specs.declared.search.Found.{Found}
-use Rattle.cms_files.specs.Consuming.{consuming}
 use Rattle.cms_files.specs.Files.{UnitFile, file_exists, file_on, on_found, some_found, writable}
 use Rattle.cms_files.specs.Identifiers.{takes_name}
-use Rattle.cms_files.specs.Updating.{on_step, stopping, telling, updating, updating_each}
+use Rattle.cms_files.specs.ModeThree.{consuming}
+use Rattle.cms_files.specs.Updates.{on_step, stopping, telling, updating, updating_each}
 use Rattle.cms_copyfile.specs.Lines.{copy_line}
 use Rattle.cms_copyfile.specs.Outputs.{copied_records, extended, file_with, form_for, form_of, number_for, stamp_for, wanted_of}
-use Rattle.cms_copyfile.specs.Telling.{copy_text, mode_shown}
-use Rattle.cms_copyfile.specs.declared.finding.NamedFile.{NamedFile}
+use Rattle.cms_copyfile.specs.Shown.{copy_text, mode_shown}
+use Rattle.cms_copyfile.specs.declared.named_files.NamedFile.{NamedFile}
 use Rattle.cms_copyfile.specs.declared.line.CopyLine.{CopyLine}
 use Rattle.cms_copyfile.specs.declared.line.Existing.{Existing}
 use Rattle.cms_copyfile.specs.declared.line.Existing.TheVariants.{Extended, Refused, Replaced}
-use Rattle.cms_copyfile.specs.declared.telling.FileShown.{FileShown}
+use Rattle.cms_copyfile.specs.declared.shown.FileShown.{FileShown}
 
 -- ---- the files that were found
 

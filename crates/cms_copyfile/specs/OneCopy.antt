@@ -6,16 +6,16 @@ use Rattle.cms_model.specs.Records.{Fits}
 use Rattle.cms_search.specs.Calls.{Spot, holds, machine_of}
 use Rattle.cms_search.specs.Machine.{Machine}
 use Rattle.cms_copyfile.specs.Copyfile.{Copying, change_with}
+use Rattle.cms_copyfile.specs.Drafts.{HaveRecords, change_as}
 use Rattle.cms_copyfile.specs.FileCopies.{IsCopying, copied_to, plan_for}
 use Rattle.cms_copyfile.specs.Measures.{measured}
 use Rattle.cms_copyfile.specs.Outputs.{copies_in, extended}
-use Rattle.cms_copyfile.specs.Writing.{HaveRecords, change_as}
 use Rattle.cms_copyfile.specs.declared.copy.FileCopy.{FileCopy}
 use Rattle.cms_copyfile.specs.declared.line.CopyLine.{CopyLine}
 use Rattle.cms_copyfile.specs.declared.measure.Measure.{Measure}
 use Rattle.cms_copyfile.specs.declared.output.CopyPlan.{CopyPlan}
 use Rattle.cms_copyfile.specs.declared.output.FileForm.{FileForm}
-use Rattle.cms_copyfile.specs.declared.writing.CopyWrite.{CopyWrite}
+use Rattle.cms_copyfile.specs.declared.draft.CopyWrite.{CopyWrite}
 
 -- the copies were measured, and fit a file of this format
 pub record IsMeasured (form : FileForm) (plan : CopyPlan) (m : Measure) (records : List (List ℕ)) : Type 0 where

@@ -7,10 +7,10 @@ ghost use Rattle.cms_copyfile.specs.Copyfile as spec;
 ghost use Rattle.cms_copyfile.specs.FileCopies.{IsFileCopy, copy_number, form_in, form_into, is_own_output, may_erase_input};
 ghost use Rattle.cms_copyfile.specs.Outputs.{extended};
 
-use crate::finding::NamedFile;
 use crate::line::{CopyLine, Existing};
+use crate::named_files::NamedFile;
 use crate::output::{FileForm, form_for, number_for, wanted_of};
-use crate::telling::FileShown;
+use crate::shown::FileShown;
 use cms_disk::FileInfo;
 use cms_files::info_named;
 use cms_names::{Name, equal_signs};

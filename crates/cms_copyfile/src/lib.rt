@@ -1,36 +1,36 @@
 //! COPYFILE: files are copied record by record.
 #![tactic(auto)]
 
+mod command;
 mod copy;
-mod copy_file;
-mod copying;
-mod ending;
-mod finding;
+mod draft;
+mod first_pass;
+mod input;
 mod line;
 mod measure;
-mod measuring;
-mod opening;
+mod named_files;
+mod outcome;
 mod output;
-mod putting;
+mod put;
 mod record;
-mod refusing;
-mod running;
+mod refusals;
+mod second_pass;
 mod shape;
-mod telling;
+mod shown;
 mod told;
-mod writing;
+mod update;
 
+pub use command::run_copyfile;
 pub use copy::FileCopy;
-pub use copying::{CopyFault, put_copies};
-pub use finding::NamedFile;
+pub use draft::{CopyTarget, CopyWrite, Written, write_copies};
+pub use first_pass::measure_copies;
 pub use line::{CopyFiles, CopyLine, CopyOutput, CopyStyle, Existing, copy_line};
 pub use measure::Measure;
-pub use measuring::measure_copies;
+pub use named_files::NamedFile;
 pub use output::{CopyPlan, FileForm, form_for, number_for, plan_of, stamp_for};
-pub use putting::put_copy;
+pub use put::put_copy;
 pub use record::{Fit, Fold, RecordStyle, copy_record};
-pub use refusing::stop_too_few;
-pub use running::run_copyfile;
+pub use refusals::stop_too_few;
+pub use second_pass::{CopyFault, put_copies};
 pub use shape::{shape_behind, shape_of};
-pub use telling::{FileShown, copy_text, mode_shown};
-pub use writing::{CopyTarget, CopyWrite, Written, write_copies};
+pub use shown::{FileShown, copy_text, mode_shown};

@@ -30,7 +30,7 @@ use Rattle.exec2_run.specs.Variables.{with_arguments}
 use Rattle.exec2_run.specs.State.{Procedure}
 use Rattle.exec2_run.specs.declared.exec.FileName.{FileName}
 use Rattle.cms_exec.specs.Exec.{Starting, HasBegun, IsRefused, call_command, exec_command, exec_operand}
-use Rattle.cms_exec.specs.Finding.{called_by}
+use Rattle.cms_exec.specs.Searches.{called_by}
 
 -- ---- what is seen
 

@@ -11,11 +11,11 @@ use Rattle.cms_search.specs.Shows.{Shows}
 use Rattle.cms_search.specs.Tables.{Accesses, Seated, shelf_of, shelves_of, told_of}
 use Rattle.cms_search.specs.declared.fault.SearchFault.{SearchFault}
 use Rattle.cms_search.specs.declared.search.Found.{Found}
-use Rattle.cms_search.proofs.Searching.{item_at_map}
+use Rattle.cms_search.proofs.Searches.{item_at_map}
 use Rattle.cms_search.proofs.Shown.{shelves_shown, told_listed}
 use Rattle.cms_files.specs.Told.{info_found}
 use Rattle.exec2_run.specs.declared.exec.FileName.{FileName}
-use Rattle.cms_exec.specs.Finding.{exec_name, file_found, file_name, found_as, listed_at, procedure_named}
+use Rattle.cms_exec.specs.Searches.{exec_name, file_found, file_name, found_as, listed_at, procedure_named}
 
 -- ---- a file that was found
 

@@ -12,10 +12,10 @@ use Rattle.cms_operands.specs.Refusals.{code_of, message_of}
 use Rattle.cms_operands.specs.declared.refusal.Refusal.{Refusal}
 use Rattle.cms_search.specs.Calls.{Meaning, course_of, machine_of}
 use Rattle.cms_search.specs.ChangeTold.{limited}
+use Rattle.cms_search.specs.DeviceSteps.{reading, silently}
 use Rattle.cms_search.specs.Machine.{Machine, Course, Went, letter_at, refusal}
-use Rattle.cms_search.specs.Refusing.{device_fault}
-use Rattle.cms_search.specs.Releasing.{vdev_of}
-use Rattle.cms_search.specs.Stepping.{reading, silently}
+use Rattle.cms_search.specs.Refusals.{device_fault}
+use Rattle.cms_search.specs.Units.{vdev_of}
 use Rattle.cms_search.specs.declared.fault.SearchFault.{SearchFault}
 use Rattle.cms_search.specs.declared.state.State.{State}
 use Rattle.cms_files.specs.Files.{UnitFile, file_on, no_file_code}
@@ -28,9 +28,9 @@ use Rattle.exec2_run.specs.Steps.{begun}
 use Rattle.exec2_run.specs.State.{Procedure}
 use Rattle.exec2_run.specs.declared.exec.FileName.{FileName}
 use Rattle.exec2_run.specs.declared.fault.Fault.{Fault}
-use Rattle.cms_exec.specs.Finding.{procedure_named}
-use Rattle.cms_exec.specs.declared.started.Started as declared
-use Rattle.cms_exec.specs.declared.started.Started.TheVariants as came
+use Rattle.cms_exec.specs.Searches.{procedure_named}
+use Rattle.cms_exec.specs.declared.start.Started as declared
+use Rattle.cms_exec.specs.declared.start.Started.TheVariants as came
 
 -- ---- what a call comes to
 

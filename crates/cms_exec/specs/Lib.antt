@@ -1,4 +1,4 @@
 pub mod Exec
-pub mod Finding
+pub mod Searches
 pub mod LawsExec
 pub mod Refused

@@ -2,8 +2,8 @@
 use Rattle.std.specs.Prelude.{Result, Ok, Err}
 use Rattle.cms_search.specs.declared.state.Course.{Course}
 use Rattle.cms_search.specs.declared.state.End.{End}
-use Rattle.cms_exec.specs.declared.started.Started.{Started}
-use Rattle.cms_exec.specs.declared.started.Started.TheVariants.{Refused}
+use Rattle.cms_exec.specs.declared.start.Started.{Started}
+use Rattle.cms_exec.specs.declared.start.Started.TheVariants.{Refused}
 
 -- the refusal's course is what it comes to
 abbrev pub with_refused : Result Course End → Result Started End

@@ -1,15 +1,13 @@
 //! EXEC: the file of a procedure is found and read whole, and the procedure begins.
 #![tactic(auto)]
 
-mod calling;
-mod finding;
+mod call;
 mod laws;
-mod reading;
-mod refusing;
-mod started;
+mod refusals;
+mod search;
+mod start;
 
-pub use calling::{run_called, run_exec};
-pub use finding::find_called;
+pub use call::{run_called, run_exec};
 pub use laws::start_laws;
-pub use reading::MOST_RUNNING;
-pub use started::Started;
+pub use search::find_called;
+pub use start::{MOST_RUNNING, Started};

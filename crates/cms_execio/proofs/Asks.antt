@@ -5,17 +5,17 @@ use Rattle.cms_machine.specs.Slots.{Slot}
 use Rattle.cms_search.specs.Calls.{Acts, Comes, Spot, machine_of}
 use Rattle.cms_search.specs.Machine.{Machine}
 use Rattle.cms_search.specs.Talks.{ask_tree, asked_of}
-use Rattle.cms_search.specs.declared.asking.Asked as declared
-use Rattle.cms_search.specs.declared.asking.Asked.TheVariants as asked
+use Rattle.cms_search.specs.declared.asked_line.Asked as declared
+use Rattle.cms_search.specs.declared.asked_line.Asked.TheVariants as asked
 use Rattle.cms_search.specs.declared.state.End.{End}
 use Rattle.cms_search.specs.declared.state.End.TheVariants.{Memory}
 use Rattle.cms_search.specs.declared.state.State.{State}
 use Rattle.cms_search.proofs.Acts.{acts_after, acts_done, acts_stop, comes_in, comes_same, comes_then, no_memory}
-use Rattle.cms_execio.specs.AskingLines.{asked_lines_of, asking_tree}
-use Rattle.cms_execio.specs.Writing as writing
-use Rattle.cms_execio.specs.Writing.{asking_lines, with_line}
-use Rattle.cms_execio.specs.declared.asking.AskedLines as asked_lines
-use Rattle.cms_execio.specs.declared.asking.AskedLines.TheVariants.{All, Spent}
+use Rattle.cms_execio.specs.AskedLines.{asked_lines_of, asking_tree}
+use Rattle.cms_execio.specs.Diskw as writing
+use Rattle.cms_execio.specs.Diskw.{asking_lines, with_line}
+use Rattle.cms_execio.specs.declared.asked_lines.AskedLines as asked_lines
+use Rattle.cms_execio.specs.declared.asked_lines.AskedLines.TheVariants.{All, Spent}
 
 -- so many are still asked for, behind these
 abbrev pub tree_of : State → ℕ → List (List ℕ) → List Slot → Act writing.AskedLines

@@ -32,17 +32,17 @@ use Rattle.cms_line.specs.Tokens.{tokens_from, tokens_of}
 use Rattle.cms_operands.specs.Choices.{all_valued, chosen_of, setting_in, valued}
 use Rattle.cms_operands.specs.Operands.{ended, given, given_or, name, needed, number, number_or_all, number_within, operands_of, reading_mode, writing_mode}
 use Rattle.cms_operands.specs.Refusals.{message_of}
-use Rattle.cms_search.specs.Asking.{asking}
+use Rattle.cms_search.specs.Asks.{asking}
 use Rattle.cms_search.specs.Machine.{Machine, Course, Places, Went, OutOfTurns, place_key}
-use Rattle.cms_search.specs.Reading.{without_device}
+use Rattle.cms_search.specs.Places.{without_device}
 use Rattle.cms_search.specs.Searches.{places_from}
 use Rattle.cms_files.specs.Identifiers.{file_input, full_name}
 use Rattle.cms_search.proofs.Machines.{code_in, lines, machine, moment, words}
 use Rattle.cms_files.proofs.Machines.{disk, file, one_disk, stack_in, two_disks, unit}
+use Rattle.cms_execio.specs.Diskw.{asking_lines}
 use Rattle.cms_execio.specs.Execio.{execio}
 use Rattle.cms_execio.specs.Line.{execio_operands, read_operands, string_place, text_in, write_operands}
 use Rattle.cms_execio.specs.Records.{record_of, stacked_line}
-use Rattle.cms_execio.specs.Writing.{asking_lines}
 
 -- ---- what is seen
 

@@ -6,8 +6,8 @@ use Rattle.std.specs.declared.alloc.AllocError.{AllocError}
 use Rattle.std.proofs.lemmas.List.{map-append, replicate-append-replicate, take_more}
 use Rattle.cms_names.specs.declared.name.Format.{Format}
 use Rattle.cms_model.specs.declared.file.FileData.{FileData}
-use Rattle.cms_files.specs.Gathering.{IsGathered, record_in}
-use Rattle.cms_files.specs.declared.gathering.Gathered.{Gathered}
+use Rattle.cms_files.specs.Gathered.{IsGathered, record_in}
+use Rattle.cms_files.specs.declared.gathered.Gathered.{Gathered}
 use Rattle.cms_execio.specs.Records.{or_blank, record_of, records_of}
 
 pub gathers_next : (format : Format) (size : ℕ) (lines : List (List ℕ)) (k : ℕ) (line text : List ℕ) (g : Gathered) → k < length lines → line ≡ get_or lines k line → text ≡ or_blank line

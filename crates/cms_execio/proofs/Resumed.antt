@@ -14,10 +14,10 @@ use Rattle.cms_line.specs.declared.token.Token.{Token}
 use Rattle.cms_world.specs.Seen.{OnlyReads, Seen}
 use Rattle.cms_search.specs.Calls.{Acts, Comes, IsLater, IsUsable, IsUsableTable, Spot, Usable, course_of, holds, machine_of, said}
 use Rattle.cms_search.specs.Calls as calls
+use Rattle.cms_search.specs.DeviceSteps.{HasRead}
 use Rattle.cms_search.specs.Machine.{Course, Machine}
-use Rattle.cms_search.specs.Refusing.{unread_code, unread_message}
+use Rattle.cms_search.specs.Refusals.{unread_code, unread_message}
 use Rattle.cms_search.specs.Searches.{item_at}
-use Rattle.cms_search.specs.Stepping.{HasRead}
 use Rattle.cms_search.specs.Tables.{Accesses, IsReadingOf, Seated, reading_on, with_reading}
 use Rattle.cms_search.specs.declared.readings.KeptReading.{KeptReading}
 use Rattle.cms_search.specs.declared.state.Course as declared
@@ -26,16 +26,16 @@ use Rattle.cms_search.specs.declared.state.End.{End}
 use Rattle.cms_search.specs.declared.state.End.TheVariants.{Memory}
 use Rattle.cms_search.specs.declared.state.State.{State}
 use Rattle.cms_search.proofs.Acts.{acts_after, comes_none, comes_then, later_does, later_then, usable_later}
-use Rattle.cms_search.proofs.Handing.{Hands, caused, later_read, only_read, reads_then}
-use Rattle.cms_search.proofs.Resuming.{acts_given, comes_given, comes_reading, left_behind, usable_reading}
+use Rattle.cms_search.proofs.DiskReadings.{acts_given, comes_given, comes_reading, left_behind, usable_reading}
+use Rattle.cms_search.proofs.HandedRecords.{Hands, caused, later_read, only_read, reads_then}
 use Rattle.cms_search.proofs.Seats.{item_here, item_within, seat_as, table_reading, with_reading_is}
-use Rattle.cms_files.specs.Opening.{IsOpened}
-use Rattle.cms_files.specs.declared.opening.OpenFile.{OpenFile}
+use Rattle.cms_files.specs.OpenFiles.{IsOpened}
+use Rattle.cms_files.specs.declared.open_files.OpenFile.{OpenFile}
 use Rattle.cms_files.proofs.OpenedFiles.{opened_open}
-use Rattle.cms_execio.specs.Passing.{GoesOnBehind, KeepsBehind, reading_behind, table_behind}
-use Rattle.cms_execio.specs.Reading.{in_front, lines_on, read_on, stack_read, taken_of}
+use Rattle.cms_execio.specs.Diskr.{in_front, lines_on, read_on, stack_read, taken_of}
+use Rattle.cms_execio.specs.Starts.{GoesOnBehind, KeepsBehind, reading_behind, table_behind}
 use Rattle.cms_execio.specs.declared.line.ReadLine.{ReadLine}
-use Rattle.cms_execio.specs.declared.passing.Start.{Start}
+use Rattle.cms_execio.specs.declared.start.Start.{Start}
 use Rattle.cms_execio.proofs.Takings.{IsStart, ReadTo, TakenSoFar, front_left, lines_all, start_taken, taken_all, taken_starved, taken_unread, tree}
 
 -- the file is open as before where the disk keeps another reading

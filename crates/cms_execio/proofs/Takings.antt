@@ -27,39 +27,39 @@ use Rattle.cms_line.specs.declared.message.Message.TheVariants.{M105}
 use Rattle.cms_line.specs.declared.token.Token.{Token}
 use Rattle.cms_search.specs.Calls.{Acts, Comes, Spot, course_of, holds, machine_of, refusal_tree, said}
 use Rattle.cms_search.specs.Calls as calls
+use Rattle.cms_search.specs.DeviceSteps.{HasRead, Stepped, handed, reading, silently, unless_failed}
 use Rattle.cms_search.specs.Machine.{Course, Machine, Places, Went}
-use Rattle.cms_search.specs.Refusing.{device_fault, unread_code, unread_message}
-use Rattle.cms_search.specs.Releasing.{vdev_of}
+use Rattle.cms_search.specs.Refusals.{device_fault, unread_code, unread_message}
 use Rattle.cms_search.specs.Searches.{item_at}
-use Rattle.cms_search.specs.Stepping.{HasRead, Stepped, handed, reading, silently, unless_failed}
 use Rattle.cms_search.specs.Tables.{Accesses, IsReadingOf, Seated, reading_on}
-use Rattle.cms_search.specs.Telling.{device_text}
+use Rattle.cms_search.specs.Texts.{device_text}
+use Rattle.cms_search.specs.Units.{vdev_of}
 use Rattle.cms_search.specs.declared.state.Course as declared
 use Rattle.cms_search.specs.declared.state.Course.TheVariants as course
 use Rattle.cms_search.specs.declared.state.End.{End}
 use Rattle.cms_search.specs.declared.state.End.TheVariants.{Memory}
 use Rattle.cms_search.specs.declared.state.State.{State}
 use Rattle.cms_search.proofs.Acts.{acts_after, acts_done, acts_same, acts_stop, comes_in, comes_none, comes_same, comes_then, cut_off, no_memory}
-use Rattle.cms_search.proofs.Handing.{AreAmong, Handed, Hands, IsOpen, Reads, handed_more, handed_none, handed_past, left_long, narrowed, only, only_read, open_same, passes_read, read_wanted, reads_none, reads_then, same_then, silent, silent_each, silent_one, unread_ends}
-use Rattle.cms_search.proofs.Meeting.{letter_is, meets_at}
-use Rattle.cms_search.proofs.Resuming.{Behind, handed_behind, kept_behind, reading_same}
-use Rattle.cms_search.proofs.Staying.{acts_stayed}
+use Rattle.cms_search.proofs.DiskReadings.{Behind, handed_behind, kept_behind, reading_same}
+use Rattle.cms_search.proofs.HandedRecords.{AreAmong, Handed, Hands, IsOpen, Reads, handed_more, handed_none, handed_past, left_long, narrowed, only, only_read, open_same, passes_read, read_wanted, reads_none, reads_then, same_then, silent, silent_each, silent_one, unread_ends}
+use Rattle.cms_search.proofs.LetterDisks.{letter_is, meets_at}
+use Rattle.cms_search.proofs.StateCalls.{acts_stayed}
 use Rattle.cms_world.specs.Seen.{OnlyReads, Seen}
-use Rattle.cms_files.specs.Consuming.{is_consumed}
 use Rattle.cms_files.specs.Files.{UnitFile}
-use Rattle.cms_files.specs.Opening.{IsOpened}
-use Rattle.cms_files.specs.Stacking.{StacksSome, stacking}
-use Rattle.cms_files.specs.Updating.{updated_of, updating_tree}
-use Rattle.cms_files.specs.declared.updating.Updated as declared_updated
-use Rattle.cms_files.specs.declared.updating.Updated.TheVariants as was
-use Rattle.cms_files.specs.declared.opening.OpenFile.{OpenFile}
+use Rattle.cms_files.specs.ModeThree.{is_consumed}
+use Rattle.cms_files.specs.OpenFiles.{IsOpened}
+use Rattle.cms_files.specs.StackedLines.{StacksSome, stacking}
+use Rattle.cms_files.specs.Updates.{updated_of, updating_tree}
+use Rattle.cms_files.specs.declared.update.Updated as declared_updated
+use Rattle.cms_files.specs.declared.update.Updated.TheVariants as was
+use Rattle.cms_files.specs.declared.open_files.OpenFile.{OpenFile}
 use Rattle.cms_files.proofs.OpenedFiles.{opened_device, opened_reads}
 use Rattle.cms_files.proofs.Stacked.{stacks_none}
-use Rattle.cms_execio.specs.Passing.{IsPast, reading_behind}
-use Rattle.cms_execio.specs.Reading.{StacksRead, code_of_taken, erase_read, if_good, in_front, keep_place, line_of_nth, lines_found, lines_on, lines_taken, places_behind, read_done, read_ended, read_found, read_on, read_taken, stack_read, taken_of}
+use Rattle.cms_execio.specs.Diskr.{StacksRead, code_of_taken, erase_read, if_good, in_front, keep_place, line_of_nth, lines_found, lines_on, lines_taken, places_behind, read_done, read_ended, read_found, read_on, read_taken, stack_read, taken_of}
 use Rattle.cms_execio.specs.Records.{stacked_line}
+use Rattle.cms_execio.specs.Starts.{IsPast, reading_behind}
 use Rattle.cms_execio.specs.declared.line.ReadLine.{ReadLine}
-use Rattle.cms_execio.specs.declared.passing.Start.{Start}
+use Rattle.cms_execio.specs.declared.start.Start.{Start}
 
 -- ---- how far it has come
 

@@ -13,9 +13,9 @@ use Rattle.cms_machine.specs.Slots.{Slot}
 use Rattle.cms_edf.specs.declared.held.FileInfo.{FileInfo}
 use Rattle.cms_disk.specs.Drafts.{file_with, shape_of}
 use Rattle.cms_files.specs.Files.{UnitFile, file_on}
-use Rattle.cms_files.specs.Gathering.{AreData}
+use Rattle.cms_files.specs.Gathered.{AreData}
 use Rattle.cms_files.specs.Told.{info_named}
-use Rattle.cms_files.specs.Updating.{went}
+use Rattle.cms_files.specs.Updates.{went}
 use Rattle.cms_files.proofs.FileTold.{IsTold, file_told}
 use Rattle.cms_files.proofs.LastUpdates.{acts_changed, last_tree}
 use Rattle.cms_search.specs.Calls.{Acts, Spot, course_of, machine_of}
@@ -27,13 +27,13 @@ use Rattle.cms_search.specs.declared.state.Course.TheVariants as course
 use Rattle.cms_search.specs.declared.state.End.{End}
 use Rattle.cms_search.specs.declared.state.State.{State}
 use Rattle.cms_search.proofs.Acts.{acts_after, acts_done, acts_same, acts_stop, comes_in, comes_same}
-use Rattle.cms_search.proofs.Meeting.{holds_shows}
-use Rattle.cms_execio.specs.AskingLines.{asked_lines_of}
+use Rattle.cms_search.proofs.LetterDisks.{holds_shows}
+use Rattle.cms_execio.specs.AskedLines.{asked_lines_of}
+use Rattle.cms_execio.specs.Diskw.{lines_for, new_file, on_asked, write_lines, writing, written_change}
+use Rattle.cms_execio.specs.Diskw as spec
 use Rattle.cms_execio.specs.Records.{records_of}
-use Rattle.cms_execio.specs.Writing.{lines_for, new_file, on_asked, write_lines, writing, written_change}
-use Rattle.cms_execio.specs.Writing as spec
-use Rattle.cms_execio.specs.declared.asking.AskedLines as declared_asked
-use Rattle.cms_execio.specs.declared.asking.AskedLines.TheVariants as asked
+use Rattle.cms_execio.specs.declared.asked_lines.AskedLines as declared_asked
+use Rattle.cms_execio.specs.declared.asked_lines.AskedLines.TheVariants as asked
 use Rattle.cms_execio.specs.declared.line.WriteTarget.{WriteTarget}
 
 -- ---- the file that is there

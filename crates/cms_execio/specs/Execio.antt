@@ -3,10 +3,10 @@ use Rattle.std.specs.Prelude.{ℕ, List}
 use Rattle.cms_machine.specs.Acts.{Act}
 use Rattle.cms_line.specs.declared.token.Token.{Token}
 use Rattle.cms_search.specs.Machine.{Machine, Course}
-use Rattle.cms_search.specs.Refusing.{on_line}
+use Rattle.cms_search.specs.Refusals.{on_line}
+use Rattle.cms_execio.specs.Diskr.{disk_read}
+use Rattle.cms_execio.specs.Diskw.{disk_write}
 use Rattle.cms_execio.specs.Line.{execio_line}
-use Rattle.cms_execio.specs.Reading.{disk_read}
-use Rattle.cms_execio.specs.Writing.{disk_write}
 use Rattle.cms_execio.specs.declared.line.ExecioLine.{ExecioLine}
 use Rattle.cms_execio.specs.declared.line.ExecioLine.TheVariants as line
 

@@ -1,7 +1,7 @@
 pub mod Line
 pub mod Records
-pub mod Reading
-pub mod Passing
-pub mod Writing
+pub mod Diskr
+pub mod Starts
+pub mod Diskw
 pub mod Execio
-pub mod AskingLines
+pub mod AskedLines

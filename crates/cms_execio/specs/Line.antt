@@ -13,7 +13,7 @@ use Rattle.cms_operands.specs.declared.choosing.OptionForm.{OptionForm}
 use Rattle.cms_operands.specs.declared.refusal.Refusal.{Refusal}
 use Rattle.cms_operands.specs.declared.refusal.Refusal.TheVariants.{BadOperand}
 use Rattle.cms_files.specs.Identifiers.{file_input, full_name}
-use Rattle.cms_files.specs.declared.stacking.StackEnd.TheVariants.{Front, Back}
+use Rattle.cms_files.specs.declared.stack.StackEnd.TheVariants.{Front, Back}
 use Rattle.cms_execio.specs.declared.line.Direction.{Direction}
 use Rattle.cms_execio.specs.declared.line.Direction.TheVariants as goes
 use Rattle.cms_execio.specs.declared.line.ExecioLine.{ExecioLine}

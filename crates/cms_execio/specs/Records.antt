@@ -3,7 +3,7 @@ use Rattle.std.specs.Prelude.{ℕ, Bool, if◌then◌else◌, List, [], ◌∷�
 use Rattle.cms_names.specs.declared.name.Format.{Format}
 use Rattle.cms_text.specs.Limits.{longest_text}
 use Rattle.cms_text.specs.Texts.{without_trailing_blanks}
-use Rattle.cms_files.specs.Gathering.{record_in}
+use Rattle.cms_files.specs.Gathered.{record_in}
 
 -- a record is cut to a line's length; with STRIP the blanks at the end of what is left go
 abbrev pub stacked_line : Bool → List ℕ → List ℕ

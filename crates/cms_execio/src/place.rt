@@ -1,6 +1,6 @@
 // Which records DISKR reads, and where reading goes on.
 ghost use Rattle.std.specs.Prelude.{◌≡◌, ◌≤◌, OnOk, OnErr, pos};
-ghost use Rattle.cms_execio.specs.Reading as spec;
+ghost use Rattle.cms_execio.specs.Diskr as spec;
 
 use crate::line::ReadRange;
 use cms_names::Name;

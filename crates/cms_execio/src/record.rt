@@ -1,7 +1,7 @@
 // Records that are stacked as lines, and lines that are written as records.
 ghost use Rattle.std.specs.Prelude.{◌≡◌, ◌≤◌, IfOk, length, take};
 ghost use Rattle.cms_text.specs.Limits.{longest_text};
-ghost use Rattle.cms_files.specs.Gathering.{IsGathered};
+ghost use Rattle.cms_files.specs.Gathered.{IsGathered};
 ghost use Rattle.cms_execio.specs.Records as spec;
 
 use cms_files::Gathered;

@@ -1,27 +1,22 @@
 -- A file that an extension reads: it is looked for, and read whole.
-use Rattle.std.proofs.Common.{◌≡◌, ◌∙◌, inl, inr, ℕ, List, [], ◌∷◌, Option, Some, None, Result, Ok, Err, arith, pos, length, slice_get, slice_index_or, refl, sym, ap, subst}
+use Rattle.std.proofs.Common.{◌≡◌, ◌∙◌, inl, inr, ℕ, List, Some, None, Result, Ok, Err, arith, pos, length, slice_get, refl, sym, ap, subst}
 use Rattle.std.specs.Prelude.{◌⊎◌, IfErr, IfOk, IfSome}
 use Rattle.std.specs.Option.{option_map}
 use Rattle.cms_fields.specs.Steps.{◌>>=◌}
-use Rattle.cms_journal.specs.Causes.{Counted, Rose}
+use Rattle.cms_journal.specs.Causes.{Rose}
 use Rattle.cms_journal.specs.Journal.{Journal}
 use Rattle.cms_journal.specs.Told.{Told}
 use Rattle.cms_journal.proofs.Counts.{counted_none, counted_one}
 use Rattle.cms_names.specs.declared.name.Name.{Name}
 use Rattle.cms_model.specs.Changes.{file_named}
-use Rattle.cms_model.specs.LawsChanges.{IsPlace}
 use Rattle.cms_model.specs.LawsUpdates as updates
-use Rattle.cms_model.specs.Minidisks.{File, Minidisk}
+use Rattle.cms_model.specs.Minidisks.{File}
 use Rattle.cms_model.specs.Trees.{Image}
 use Rattle.cms_model.specs.declared.file.FileData.{FileData}
-use Rattle.cms_model.proofs.Changing.{place_changed}
-use Rattle.cms_machine.specs.Acts as acts
 use Rattle.cms_machine.specs.Acts.{Act, Done, saying, typed_line}
 use Rattle.cms_machine.specs.Objects.{Object, Records}
-use Rattle.cms_machine.specs.Runs.{Ran}
 use Rattle.cms_machine.specs.Slots.{Slot}
-use Rattle.cms_machine.specs.Steps.{Get, Good, MayGet, Offers, Outcome, ReadFault, faults_in}
-use Rattle.cms_machine.proofs.Single.{ran_still}
+use Rattle.cms_machine.specs.Steps.{Good, Outcome, ReadFault}
 use Rattle.cms_line.specs.Messages.{message_text}
 use Rattle.cms_line.specs.declared.message.Message.TheVariants.{M105}
 use Rattle.cms_operands.specs.declared.mode.ReadMode.TheVariants.{Letter}
@@ -33,18 +28,16 @@ use Rattle.cms_disk.specs.Getting.{GetsIn}
 use Rattle.cms_disk.specs.declared.fault.DiskFault.{DiskFault}
 use Rattle.cms_disk.specs.declared.fault.DiskFault.TheVariants as failed
 use Rattle.cms_disk.specs.declared.unit.UnitInfo.{UnitInfo}
-use Rattle.cms_disk.proofs.Finding.{stands_tells}
-use Rattle.cms_held.specs.LawsHeld.{IsFound}
 use Rattle.cms_world.specs.Seen.{Seen}
-use Rattle.cms_search.specs.Calls.{Acts, Comes, Does, Holds, IsLater, IsUsable, Meaning, Spot, at, holds, machine_of, refusal_tree, said}
+use Rattle.cms_search.specs.Calls.{Acts, Comes, Does, IsLater, IsUsable, Meaning, Spot, at, holds, machine_of, refusal_tree, said}
+use Rattle.cms_search.specs.DeviceSteps.{HasRead, handed, silently}
 use Rattle.cms_search.specs.Machine.{Course, Machine, letter_at}
-use Rattle.cms_search.specs.Refusing.{device_fault, unread_code, unread_message}
-use Rattle.cms_search.specs.Releasing.{vdev_of}
+use Rattle.cms_search.specs.Refusals.{device_fault, unread_code, unread_message}
 use Rattle.cms_search.specs.Searches.{item_at, look_up, shelves_in}
 use Rattle.cms_search.specs.Shows.{Shows}
-use Rattle.cms_search.specs.Stepping.{HasRead, handed, silently}
 use Rattle.cms_search.specs.Tables.{Seated}
-use Rattle.cms_search.specs.Telling.{device_text}
+use Rattle.cms_search.specs.Texts.{device_text}
+use Rattle.cms_search.specs.Units.{vdev_of}
 use Rattle.cms_search.specs.declared.fault.SearchFault.{SearchFault}
 use Rattle.cms_search.specs.declared.fault.SearchFault.TheVariants as why
 use Rattle.cms_search.specs.declared.search.Found.{Found}
@@ -55,76 +48,25 @@ use Rattle.cms_search.specs.declared.state.End.TheVariants.{Edge, Memory}
 use Rattle.cms_search.specs.declared.state.State.{State}
 use Rattle.cms_search.proofs.Acts as joins
 use Rattle.cms_search.proofs.Acts.{acts_after, acts_done, acts_same, later_does, later_then, no_memory, usable_later}
-use Rattle.cms_search.proofs.Handing.{acts_never, later_read, named_so, passes_read}
-use Rattle.cms_search.proofs.Meeting.{holds_shows, letter_is, meets_at, readable_seat}
+use Rattle.cms_search.proofs.HandedRecords.{acts_never, later_read, named_so}
+use Rattle.cms_search.proofs.LetterDisks.{holds_shows, letter_is, meets_at, readable_seat}
 use Rattle.cms_search.proofs.Released.{vdev_is}
 use Rattle.cms_search.proofs.Stepped.{has_device}
 use Rattle.cms_files.specs.Files.{UnitFile, file_on}
 use Rattle.cms_files.proofs.Found.{found_held}
 use Rattle.cms_files.proofs.OpenedFiles.{none_named, none_on, none_with, seat_with}
+use Rattle.cms_files.proofs.WholeReads.{ReadsAll, comes_read, seen_now, there_is}
 use Rattle.cms_ext.specs.Calls.{desk_of, met_of, met_with}
 use Rattle.cms_ext.specs.Extensions.{Met, getting, read_found, refusing, unfound}
 use Rattle.cms_ext.specs.Extensions as spec
 use Rattle.cms_ext.specs.declared.extension.ExtReply.TheVariants as told
-use Rattle.cms_ext.specs.declared.meeting.Met as declared_met
-use Rattle.cms_ext.specs.declared.meeting.Met.TheVariants as met
+use Rattle.cms_ext.specs.declared.wants.Met as declared_met
+use Rattle.cms_ext.specs.declared.wants.Met.TheVariants as met
 use Rattle.cms_ext.proofs.Refusals.{refuses}
 
 -- what a unit holds now
 abbrev current : Journal → ℕ → Image
 current j u = updates.now j u
-
--- ---- the device step
-
-abbrev pub seen_now : Spot → Seen → Spot
-seen_now old now = record { world = now; state = old.state }
-
--- on these units a tree reads all records of a file, and goes on so by this outcome
-record ReadsAll {R : Type 0} (units : List Slot) (t : Act R) (o : Outcome) (next : Act R) : Type 0 where
-  pub unit : ℕ
-  pub file : File
-  pub then' : Outcome → Act R
-  pub offers : Offers (slice_get units unit) file (length file.records)
-  pub tree : t ≡ acts.Does (Get unit file (length file.records)) then'
-  pub is : then' o ≡ next
-
--- units were read alone, and the step has come to this outcome
-comes_read : {R : Type 0} (old : Spot) (now : Seen) (t next : List Slot → Act R) (o : Outcome) → HasRead old.world now → ((n : ℕ) → MayGet n o)
-    → Counted old.world.faults (faults_in (o ∷ [])) now.faults → ((units : List Slot) → holds old units → ReadsAll units (t units) o (next units))
-    → Comes old (seen_now old now) t next
-comes_read old now t next o read may counted reads =
-    let new : Spot = seen_now old now in
-    let passes = passes_read old.world now read in
-    record {
-      each = λ units h.
-          let r = reads units h in
-          let ran = ran_still (at old units) (at new units) (Get r.unit r.file (length r.file.records)) o r.then' read.told counted refl (may (length r.file.records)) r.offers refl refl
-          (record { unread = refl; ended = refl }) refl in (
-            units,
-            (
-              subst (λ (told : Told). Holds told old.state.table units) (sym read.told) h,
-              subst (λ (z : Act _). Ran (at old units) (at new units) z (next units)) (sym r.tree)
-                  (subst (λ (z : Act _). Ran (at old units) (at new units) (acts.Does (Get r.unit r.file (length r.file.records)) r.then') z) r.is ran),
-            ),
-          );
-      later = passes.later;
-      usable = usable_later old new passes.later refl;
-    }
-
--- ---- the file
-
--- the file of a name, where the name has a place
-named_at : (name : Name) (fs : List File) (k : ℕ) → IsPlace name fs k → (f : File) × (file_named name fs ≡ Some f)
-named_at name [] k p = absurd (let less = p.within in omega arith)
-named_at name (f ∷ fs) k p = (slice_index_or (f ∷ fs) k f, (place_changed name (f ∷ fs) k p).found f)
-
-there_is : (image : Image) (d : Accessed) (m : Minidisk) (name : Name) (x : Option ℕ) → StandsIn image d m → place_of name d.volume ≡ x → (x ≡ None → ⊥)
-    → (f : File) × (file_named name m.files ≡ Some f)
-there_is image d m name None s is some = absurd (some refl)
-there_is image d m name (Some k) s is some = named_at name m.files k (subst (IsFound name m.files) is ((stands_tells image d m s).found name))
-
-pub some_place : (k : ℕ) (x : Option ℕ) → Some k ≡ x → x ≡ None → ⊥
-some_place k x is none = let e : Some k ≡ None = is ∙ none in absurd (cc e)
 
 module _ (old : Spot) (objects : List Object) (name : Name) (n found : ℕ) where
   abbrev pub read_tree : List Slot → Act Met

@@ -9,8 +9,8 @@ use Rattle.cms_machine.specs.Slots.{Slot}
 use Rattle.cms_search.specs.Calls.{Acts, Does, Spot, itself, said}
 use Rattle.cms_search.specs.Machine.{typing}
 use Rattle.cms_search.specs.Talks.{ask_tree, asked_of}
-use Rattle.cms_search.specs.declared.asking.Asked as declared_asked
-use Rattle.cms_search.specs.declared.asking.Asked.TheVariants as asked
+use Rattle.cms_search.specs.declared.asked_line.Asked as declared_asked
+use Rattle.cms_search.specs.declared.asked_line.Asked.TheVariants as asked
 use Rattle.cms_search.specs.declared.state.End.{End}
 use Rattle.cms_world.specs.Seen.{Seen}
 use Rattle.cms_search.proofs.Acts.{acts_done, acts_same, acts_stop, comes_does, comes_in, does_stop}
@@ -18,8 +18,8 @@ use Rattle.cms_search.proofs.Lined.{Reached, nothing, reached_none, reached_off,
 use Rattle.cms_ext.specs.Calls.{desk_of, met_of}
 use Rattle.cms_ext.specs.Extensions.{Met, Told, asking, told_line}
 use Rattle.cms_ext.specs.declared.extension.ExtReply.TheVariants as told
-use Rattle.cms_ext.specs.declared.meeting.Met as declared_met
-use Rattle.cms_ext.specs.declared.meeting.Met.TheVariants as met
+use Rattle.cms_ext.specs.declared.wants.Met as declared_met
+use Rattle.cms_ext.specs.declared.wants.Met.TheVariants as met
 use Rattle.cms_ext.proofs.Lists.{from_place}
 
 -- ---- lines that are typed

@@ -17,29 +17,29 @@ use Rattle.cms_edf.specs.declared.held.FileInfo.{FileInfo}
 use Rattle.cms_disk.specs.Drafts as drafts
 use Rattle.cms_disk.specs.Drafts.{shape_of}
 use Rattle.cms_search.specs.Calls.{Acts, Meaning, Spot, holds, machine_of}
+use Rattle.cms_search.specs.DeviceSteps.{Stepped}
 use Rattle.cms_search.specs.Machine.{Machine, letter_at}
 use Rattle.cms_search.specs.Searches.{Shelf, shelves_in}
-use Rattle.cms_search.specs.Stepping.{Stepped}
 use Rattle.cms_search.specs.declared.fault.SearchFault.{SearchFault}
 use Rattle.cms_search.specs.declared.state.Course as declared
 use Rattle.cms_search.specs.declared.state.Course.TheVariants as course
 use Rattle.cms_search.specs.declared.state.End.{End}
 use Rattle.cms_search.proofs.Acts.{acts_done, acts_same, acts_stop, comes_in}
-use Rattle.cms_search.proofs.Meeting.{holds_shows}
+use Rattle.cms_search.proofs.LetterDisks.{holds_shows}
 use Rattle.cms_files.specs.Files.{UnitFile, file_on, writable}
-use Rattle.cms_files.specs.Gathering.{AreData, IsGathered, record_in}
+use Rattle.cms_files.specs.Gathered.{AreData, IsGathered, record_in}
 use Rattle.cms_files.specs.Told.{info_named}
-use Rattle.cms_files.specs.Updating.{updated_of, updating}
-use Rattle.cms_files.specs.declared.gathering.Gathered.{Gathered}
-use Rattle.cms_files.specs.declared.updating.Updated as declared_updated
-use Rattle.cms_files.specs.declared.updating.Updated.TheVariants as came
+use Rattle.cms_files.specs.Updates.{updated_of, updating}
+use Rattle.cms_files.specs.declared.gathered.Gathered.{Gathered}
+use Rattle.cms_files.specs.declared.update.Updated as declared_updated
+use Rattle.cms_files.specs.declared.update.Updated.TheVariants as came
 use Rattle.cms_files.proofs.FileTold.{IsTold, file_told}
 use Rattle.cms_ext.specs.Calls.{desk_of, form_told, met_of, met_with}
 use Rattle.cms_ext.specs.Extensions.{Met, file_of, file_put, put_change, put_found, put_on, putting, told_step, unfound}
 use Rattle.cms_ext.specs.declared.extension.ExtReply.TheVariants as told
-use Rattle.cms_ext.specs.declared.meeting.Met as declared_met
-use Rattle.cms_ext.specs.declared.meeting.Met.TheVariants as met
-use Rattle.cms_ext.specs.declared.putting.Form.{Form}
+use Rattle.cms_ext.specs.declared.wants.Met as declared_met
+use Rattle.cms_ext.specs.declared.wants.Met.TheVariants as met
+use Rattle.cms_ext.specs.declared.file_write.Form.{Form}
 
 -- ---- records that are gathered
 

@@ -16,8 +16,8 @@ use Rattle.cms_search.proofs.Acts.{acts_done, acts_stop, comes_in, refused}
 use Rattle.cms_ext.specs.Calls.{met_of, met_with}
 use Rattle.cms_ext.specs.Extensions.{refusing, told_code}
 use Rattle.cms_ext.specs.declared.extension.ExtReply.TheVariants as told
-use Rattle.cms_ext.specs.declared.meeting.Met as declared_met
-use Rattle.cms_ext.specs.declared.meeting.Met.TheVariants as met
+use Rattle.cms_ext.specs.declared.wants.Met as declared_met
+use Rattle.cms_ext.specs.declared.wants.Met.TheVariants as met
 
 -- it was refused as a tree says
 pub refuses : (old new : Spot) (objects : List Object) (tree : List Slot → Act Course) (r : Result declared.Course End) (s : State)

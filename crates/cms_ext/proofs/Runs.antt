@@ -27,8 +27,8 @@ use Rattle.cms_ext.specs.Objects.{AnswersAt, HasPlace, words_of}
 use Rattle.cms_ext.specs.Replies.{reply_of, want_of}
 use Rattle.cms_ext.specs.declared.extension.ExtReply.{ExtReply}
 use Rattle.cms_ext.specs.declared.extension.ExtWant.{ExtWant}
-use Rattle.cms_ext.specs.declared.meeting.Met as declared_met
-use Rattle.cms_ext.specs.declared.meeting.Met.TheVariants as met
+use Rattle.cms_ext.specs.declared.wants.Met as declared_met
+use Rattle.cms_ext.specs.declared.wants.Met.TheVariants as met
 use Rattle.cms_ext.proofs.Lists.{objects_kept, place_kept}
 
 -- where a session with these objects stands

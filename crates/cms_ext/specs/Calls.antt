@@ -14,9 +14,9 @@ use Rattle.cms_ext.specs.Extensions as spec
 use Rattle.cms_ext.specs.Extensions.{Desk, Ended, desk, run_extension}
 use Rattle.cms_ext.specs.Replies.{reply_of}
 use Rattle.cms_ext.specs.declared.extension.ExtReply.TheVariants as told
-use Rattle.cms_ext.specs.declared.meeting.Met as declared
-use Rattle.cms_ext.specs.declared.meeting.Met.TheVariants as met
-use Rattle.cms_ext.specs.declared.putting.Form.{Form}
+use Rattle.cms_ext.specs.declared.wants.Met as declared
+use Rattle.cms_ext.specs.declared.wants.Met.TheVariants as met
+use Rattle.cms_ext.specs.declared.file_write.Form.{Form}
 
 -- the desk with this state and these objects
 abbrev pub desk_of : State → List Object → List Slot → Desk

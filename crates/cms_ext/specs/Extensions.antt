@@ -15,19 +15,19 @@ use Rattle.cms_line.specs.declared.message.Message.{Message}
 use Rattle.cms_line.specs.declared.message.Message.TheVariants.{M002, M037, M069}
 use Rattle.cms_operands.specs.declared.mode.ReadMode.TheVariants.{Letter}
 use Rattle.cms_files.specs.declared.identifier.FileInput.{FileInput}
-use Rattle.cms_search.specs.Asking.{Asked, Given, Spent, ask}
+use Rattle.cms_search.specs.Asks.{Asked, Given, Spent, ask}
+use Rattle.cms_search.specs.DeviceSteps.{Did, Failed, Stepped, reading, silently}
 use Rattle.cms_search.specs.Machine.{Course, Machine, letter_at, refusal, turned, typing}
 use Rattle.cms_search.specs.Machine as command
-use Rattle.cms_search.specs.Refusing.{device_fault, no_disk}
-use Rattle.cms_search.specs.Releasing.{vdev_of}
+use Rattle.cms_search.specs.Refusals.{device_fault, no_disk}
 use Rattle.cms_search.specs.Searches.{Shelf, shelves_in}
-use Rattle.cms_search.specs.Stepping.{Did, Failed, Stepped, reading, silently}
-use Rattle.cms_search.specs.Telling.{letter_text}
+use Rattle.cms_search.specs.Texts.{letter_text}
+use Rattle.cms_search.specs.Units.{vdev_of}
 use Rattle.cms_search.specs.declared.fault.SearchFault.{SearchFault}
 use Rattle.cms_search.specs.declared.fault.SearchFault.TheVariants as why
 use Rattle.cms_files.specs.Files.{UnitFile, file_found, file_on, no_file_code, writable}
-use Rattle.cms_files.specs.Gathering.{record_in}
-use Rattle.cms_files.specs.Updating.{updating}
+use Rattle.cms_files.specs.Gathered.{record_in}
+use Rattle.cms_files.specs.Updates.{updating}
 
 -- the machine, and the objects that the session was handed, in the order of their words
 pub record Desk : Type 0 where

@@ -1,19 +1,19 @@
 //! Nucleus extensions: objects that a caller hands in under words, and that answer the lines of these words.
 #![tactic(auto)]
 
-mod asking;
 mod extension;
-mod getting;
+mod file_read;
+mod file_write;
 mod list;
-mod meeting;
-mod putting;
+mod question;
 mod records;
-mod refusing;
-mod running;
+mod refused_wants;
+mod rounds;
 mod tally;
+mod wants;
 
 pub use extension::{ExtReply, ExtWant, Extension};
 pub use list::{ExtList, PushExt};
 pub use records::{Record, Records};
-pub use running::run;
+pub use rounds::run;
 pub use tally::Tally;

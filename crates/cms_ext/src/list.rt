@@ -4,8 +4,8 @@ ghost use Rattle.std.specs.List.{IsDistinct};
 ghost use Rattle.std.specs.Prelude.{map, length, ◌<◌, ◌^◌};
 ghost use Rattle.std.specs.Str.{bytes_eq};
 
-use crate::asking::ask;
 use crate::extension::{ExtReply, ExtWant, Extension};
+use crate::question::ask;
 use cms_names::Part;
 use std::alloc::{AllocError, Global};
 

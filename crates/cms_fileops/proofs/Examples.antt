@@ -24,11 +24,11 @@ use Rattle.cms_operands.specs.Refusals.{message_of}
 use Rattle.cms_search.specs.Machine.{Machine, typing}
 use Rattle.cms_search.specs.Searches.{places_from}
 use Rattle.cms_files.specs.Identifiers.{file_input, full_name, name_choice, output_name}
-use Rattle.cms_files.specs.Updating.{updating_each}
+use Rattle.cms_files.specs.Updates.{updating_each}
 use Rattle.cms_fileops.specs.Erase.{erase, erase_operands}
 use Rattle.cms_fileops.specs.Rename.{rename, rename_operands}
 use Rattle.cms_fileops.specs.State.{state, state_operands}
-use Rattle.cms_fileops.specs.Typing.{type_command, type_operands}
+use Rattle.cms_fileops.specs.TypeCommand.{type_command, type_operands}
 use Rattle.cms_search.proofs.Machines.{Answer, answer, moment, types, words}
 use Rattle.cms_files.proofs.Machines.{Named, disk, file, left, named, one_disk, two_disks}
 

@@ -22,29 +22,29 @@ use Rattle.cms_search.specs.Calls.{Acts, Comes, Does, Spot, after_world, course_
 use Rattle.cms_search.specs.Machine.{Course, Machine, letter_at, typing}
 use Rattle.cms_operands.specs.Refusals.{code_of, message_of}
 use Rattle.cms_operands.specs.declared.refusal.Refusal.TheVariants.{BadOperand}
-use Rattle.cms_search.specs.Refusing.{device_fault, unread_code, unread_message}
-use Rattle.cms_search.specs.Releasing.{vdev_of}
+use Rattle.cms_search.specs.DeviceSteps.{HasRead, handed, reading}
+use Rattle.cms_search.specs.Refusals.{device_fault, unread_code, unread_message}
 use Rattle.cms_search.specs.Shows.{Shows}
-use Rattle.cms_search.specs.Stepping.{HasRead, handed, reading}
-use Rattle.cms_search.specs.Telling.{device_text}
+use Rattle.cms_search.specs.Texts.{device_text}
+use Rattle.cms_search.specs.Units.{vdev_of}
 use Rattle.cms_search.specs.declared.fault.SearchFault.{SearchFault}
 use Rattle.cms_search.specs.declared.state.Course as declared
 use Rattle.cms_search.specs.declared.state.Course.TheVariants as course
 use Rattle.cms_search.specs.declared.state.End.{End}
 use Rattle.cms_search.specs.declared.state.State.{State}
 use Rattle.cms_search.proofs.Acts.{acts_after, acts_done, acts_same, comes_same, comes_then}
-use Rattle.cms_search.proofs.Handing.{AreAmong, Handed, Hands, IsEach, IsOpen, Reads, handed_more, handed_none, only_read, passes_does, passes_read, passes_then, read_stops, read_wanted, reads_none, unread_ends}
-use Rattle.cms_search.proofs.Meeting.{holds_shows, letter_is}
-use Rattle.cms_search.proofs.Staying.{acts_refused}
+use Rattle.cms_search.proofs.HandedRecords.{AreAmong, Handed, Hands, IsEach, IsOpen, Reads, handed_more, handed_none, only_read, passes_does, passes_read, passes_then, read_stops, read_wanted, reads_none, unread_ends}
+use Rattle.cms_search.proofs.LetterDisks.{holds_shows, letter_is}
+use Rattle.cms_search.proofs.StateCalls.{acts_refused}
 use Rattle.cms_world.specs.Seen.{OnlyReads, Seen}
-use Rattle.cms_files.specs.Consuming.{last_consuming}
 use Rattle.cms_files.specs.Files.{UnitFile, file_on, on_found, word_refused}
-use Rattle.cms_files.specs.Opening.{HasRecords, IsOpened}
-use Rattle.cms_files.specs.declared.opening.OpenFile.{OpenFile}
+use Rattle.cms_files.specs.ModeThree.{last_consuming}
+use Rattle.cms_files.specs.OpenFiles.{HasRecords, IsOpened}
+use Rattle.cms_files.specs.declared.open_files.OpenFile.{OpenFile}
 use Rattle.cms_files.proofs.OpenedFiles.{opened_device, opened_reads}
-use Rattle.cms_fileops.specs.Typing.{record_text, type_ended, type_found, type_on, typed_nth, typing_from, wanted_of}
-use Rattle.cms_fileops.specs.declared.typing.TypeLine.{TypeLine}
-use Rattle.cms_fileops.specs.declared.typing.TypeRange.{TypeRange}
+use Rattle.cms_fileops.specs.TypeCommand.{record_text, type_ended, type_found, type_on, typed_nth, typing_from, wanted_of}
+use Rattle.cms_fileops.specs.declared.type_command.TypeLine.{TypeLine}
+use Rattle.cms_fileops.specs.declared.type_command.TypeRange.{TypeRange}
 
 -- ---- what is done with records
 

@@ -11,13 +11,13 @@ use Rattle.cms_operands.specs.Optional.{writing_mode_or_a}
 use Rattle.cms_operands.specs.declared.choosing.ChosenOption.{ChosenOption}
 use Rattle.cms_operands.specs.declared.choosing.OptionForm.{OptionForm}
 use Rattle.cms_operands.specs.declared.refusal.Refusal.{Refusal}
+use Rattle.cms_search.specs.DeviceSteps.{Stepped}
 use Rattle.cms_search.specs.Machine.{Machine, Course}
-use Rattle.cms_search.specs.Refusing.{on_line}
+use Rattle.cms_search.specs.Refusals.{on_line}
 use Rattle.cms_search.specs.Searches.{Listed, shelves_in}
-use Rattle.cms_search.specs.Stepping.{Stepped}
 use Rattle.cms_files.specs.Files.{file_text, shelf_with}
 use Rattle.cms_files.specs.Identifiers.{name_choice}
-use Rattle.cms_files.specs.Updating.{on_step, telling, updating, updating_taken}
+use Rattle.cms_files.specs.Updates.{on_step, telling, updating, updating_taken}
 use Rattle.cms_fileops.specs.declared.erase.EraseFiles.{EraseFiles}
 use Rattle.cms_fileops.specs.declared.erase.EraseLine.{EraseLine}
 use Rattle.cms_fileops.specs.declared.erase.EraseOption.{EraseOption}

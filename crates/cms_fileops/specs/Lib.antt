@@ -1,4 +1,4 @@
 pub mod State
-pub mod Typing
+pub mod TypeCommand
 pub mod Erase
 pub mod Rename

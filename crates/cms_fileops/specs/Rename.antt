@@ -17,15 +17,15 @@ use Rattle.cms_operands.specs.declared.choosing.OptionForm.{OptionForm}
 use Rattle.cms_operands.specs.declared.operand.WriteMode.{WriteMode}
 use Rattle.cms_operands.specs.declared.refusal.Refusal.{Refusal}
 use Rattle.cms_operands.specs.declared.refusal.Refusal.TheVariants.{BadMode}
+use Rattle.cms_search.specs.DeviceSteps.{Stepped}
 use Rattle.cms_search.specs.Machine.{Machine, Course}
-use Rattle.cms_search.specs.Refusing.{on_line}
+use Rattle.cms_search.specs.Refusals.{on_line}
 use Rattle.cms_search.specs.Searches.{Listed, Shelf, item_at, shelves_in}
-use Rattle.cms_search.specs.Stepping.{Stepped}
 use Rattle.cms_search.specs.Tables.{Accesses, shelves_of}
-use Rattle.cms_search.specs.Telling.{letter_text}
+use Rattle.cms_search.specs.Texts.{letter_text}
 use Rattle.cms_files.specs.Files.{file_exists, file_text, has_name, shelf_with}
 use Rattle.cms_files.specs.Identifiers.{name_choice, output_name}
-use Rattle.cms_files.specs.Updating.{on_step, stopping, telling, updating, updating_taken}
+use Rattle.cms_files.specs.Updates.{on_step, stopping, telling, updating, updating_taken}
 use Rattle.cms_fileops.specs.declared.rename.RenameFiles.{RenameFiles}
 use Rattle.cms_fileops.specs.declared.rename.RenameLine.{RenameLine}
 use Rattle.cms_fileops.specs.declared.rename.RenameOption.{RenameOption}

@@ -7,7 +7,7 @@ use Rattle.cms_operands.specs.Choices.{without_options}
 use Rattle.cms_operands.specs.Operands.{ended, operands_of}
 use Rattle.cms_operands.specs.declared.refusal.Refusal.{Refusal}
 use Rattle.cms_search.specs.Machine.{Machine, Course, Went}
-use Rattle.cms_search.specs.Refusing.{on_line}
+use Rattle.cms_search.specs.Refusals.{on_line}
 use Rattle.cms_files.specs.Files.{file_found, on_found}
 use Rattle.cms_files.specs.Identifiers.{file_input}
 use Rattle.cms_files.specs.declared.identifier.FileInput.{FileInput}

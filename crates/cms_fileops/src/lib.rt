@@ -4,9 +4,9 @@
 mod erase;
 mod rename;
 mod state;
-mod typing;
+mod type_command;
 
 pub use erase::{EraseFiles, EraseLine, erase_line, run_erase};
 pub use rename::{RenameFiles, RenameLine, Renaming, rename_line, run_rename};
 pub use state::{run_state, state_line};
-pub use typing::{ColumnRange, TypeLine, TypeRange, TypeStyle, run_type, type_line};
+pub use type_command::{ColumnRange, TypeLine, TypeRange, TypeStyle, run_type, type_line};

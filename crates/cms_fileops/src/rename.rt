@@ -4,7 +4,7 @@ ghost use Rattle.cms_fields.specs.Moments.{is_moment};
 ghost use Rattle.cms_operands.specs.Choices.{AnswersLine};
 ghost use Rattle.cms_operands.specs.Refusals.{text_at};
 ghost use Rattle.cms_search.specs.Calls.{Acts, IsUsable, course_of, machine_of, spot};
-ghost use Rattle.cms_files.specs.Updating.{updated_of};
+ghost use Rattle.cms_files.specs.Updates.{updated_of};
 ghost use Rattle.cms_fileops.specs.Rename as spec;
 
 use cms_edf::Change;

@@ -12,8 +12,8 @@ use Rattle.cms_search.specs.Searches.{has, item_at}
 use Rattle.cms_search.specs.Shows.{Shows}
 use Rattle.cms_search.specs.Tables.{Accesses, Seated, letters_of, writing}
 use Rattle.cms_search.specs.declared.fault.SearchFault.{SearchFault}
-use Rattle.cms_files.specs.Consuming.{is_consumed, is_numbered, read_once}
 use Rattle.cms_files.specs.Files.{UnitFile, file_on}
+use Rattle.cms_files.specs.ModeThree.{is_consumed, is_numbered, read_once}
 use Rattle.cms_files.specs.Told.{info_named}
 use Rattle.cms_files.proofs.FileTold.{IsTold, file_told}
 

@@ -14,7 +14,7 @@ use Rattle.cms_search.specs.declared.fault.SearchFault.TheVariants as why
 use Rattle.cms_search.specs.declared.search.Found.{Found}
 use Rattle.cms_search.specs.declared.state.Course as declared
 use Rattle.cms_search.specs.declared.state.End.{End}
-use Rattle.cms_search.proofs.Meeting.{holds_shows}
+use Rattle.cms_search.proofs.LetterDisks.{holds_shows}
 use Rattle.cms_files.specs.Files.{UnitFile, file_found, file_on, on_found}
 use Rattle.cms_files.specs.Unfound.{RefusesSearch}
 use Rattle.cms_files.specs.declared.identifier.FileInput.{FileInput}

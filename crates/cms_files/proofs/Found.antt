@@ -20,8 +20,8 @@ use Rattle.cms_search.specs.declared.state.End.TheVariants.{Memory}
 use Rattle.cms_search.specs.declared.state.State.{State}
 use Rattle.cms_world.specs.Seen.{Seen}
 use Rattle.cms_search.proofs.Acts.{acts_same}
-use Rattle.cms_search.proofs.Meeting.{holds_shows}
-use Rattle.cms_search.proofs.Staying.{acts_refused, acts_starved}
+use Rattle.cms_search.proofs.LetterDisks.{holds_shows}
+use Rattle.cms_search.proofs.StateCalls.{acts_refused, acts_starved}
 use Rattle.cms_files.specs.Files.{on_found, search_code, search_message}
 use Rattle.cms_files.specs.Unfound.{RefusesSearch}
 

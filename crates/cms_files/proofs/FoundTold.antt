@@ -18,7 +18,7 @@ use Rattle.cms_search.specs.Tables.{Accesses, Seated, listed_held, shelf_of, she
 use Rattle.cms_search.specs.declared.fault.SearchFault.{SearchFault}
 use Rattle.cms_search.specs.declared.search.Found.{Found}
 use Rattle.cms_search.proofs.Released.{get_map, position_map}
-use Rattle.cms_search.proofs.Searching.{item_at_map}
+use Rattle.cms_search.proofs.Searches.{item_at_map}
 use Rattle.cms_files.proofs.FileTold.{held_at}
 use Rattle.cms_files.specs.Told.{IsFoundTold, info_found, info_named}
 

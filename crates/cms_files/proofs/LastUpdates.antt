@@ -3,12 +3,12 @@ use Rattle.std.proofs.Common.{◌≡◌, ℕ, List, Result, Ok, Err, pos, ap, su
 use Rattle.cms_model.specs.Changes.{Change}
 use Rattle.cms_machine.specs.Acts.{Act, bind}
 use Rattle.cms_machine.specs.Slots.{Slot}
-use Rattle.cms_files.specs.Updating.{last_update, updated_of, went}
-use Rattle.cms_files.specs.declared.updating.Updated as declared_updated
-use Rattle.cms_files.specs.declared.updating.Updated.TheVariants as came
+use Rattle.cms_files.specs.Updates.{last_update, updated_of, went}
+use Rattle.cms_files.specs.declared.update.Updated as declared_updated
+use Rattle.cms_files.specs.declared.update.Updated.TheVariants as came
 use Rattle.cms_search.specs.Calls.{Acts, Spot, course_of, holds, machine_of}
+use Rattle.cms_search.specs.DeviceSteps.{Stepped, unless_failed}
 use Rattle.cms_search.specs.Machine.{Course}
-use Rattle.cms_search.specs.Stepping.{Stepped, unless_failed}
 use Rattle.cms_search.specs.declared.state.Course as declared
 use Rattle.cms_search.specs.declared.state.Course.TheVariants as course
 use Rattle.cms_search.specs.declared.state.End.{End}

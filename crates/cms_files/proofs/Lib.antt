@@ -5,7 +5,7 @@ pub mod TakenFiles
 pub mod Updates
 pub mod OutputModes
 pub mod Records
-pub mod Forgetting
+pub mod Writes
 pub mod OpenedFiles
 pub mod LastUpdates
 pub mod FileTold
@@ -13,3 +13,4 @@ pub mod FilesRead
 pub mod Consumed
 pub mod Parts
 pub mod FoundTold
+pub mod WholeReads

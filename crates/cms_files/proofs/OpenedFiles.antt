@@ -20,19 +20,19 @@ use Rattle.cms_disk.specs.declared.unit.UnitInfo.{UnitInfo}
 use Rattle.cms_disk.proofs.Finding.{none_found}
 use Rattle.cms_search.specs.Calls.{IsUsable, Spot, machine_of}
 use Rattle.cms_search.specs.Machine.{Letter, Machine, letter_at}
-use Rattle.cms_search.specs.Releasing.{vdev_of}
 use Rattle.cms_search.specs.Searches.{item_at}
 use Rattle.cms_search.specs.Shows.{Shows}
 use Rattle.cms_search.specs.Tables.{Accesses, Seated}
+use Rattle.cms_search.specs.Units.{vdev_of}
 use Rattle.cms_search.specs.declared.fault.SearchFault.TheVariants as why
 use Rattle.cms_search.specs.declared.state.State.{State}
-use Rattle.cms_search.proofs.Handing.{IsOpen, Reads, left_long, open_seat, reads_seat}
-use Rattle.cms_search.proofs.Meeting.{letter_is}
+use Rattle.cms_search.proofs.HandedRecords.{IsOpen, Reads, left_long, open_seat, reads_seat}
+use Rattle.cms_search.proofs.LetterDisks.{letter_is}
 use Rattle.cms_search.proofs.Released.{letter_told, vdev_is}
 use Rattle.cms_files.specs.Files.{file_on}
-use Rattle.cms_files.specs.Opening.{HasRecords, IsOpened}
+use Rattle.cms_files.specs.OpenFiles.{HasRecords, IsOpened}
 use Rattle.cms_files.specs.Told.{info_named}
-use Rattle.cms_files.specs.declared.opening.OpenFile.{OpenFile}
+use Rattle.cms_files.specs.declared.open_files.OpenFile.{OpenFile}
 
 -- ---- the disk of a letter
 

@@ -11,8 +11,8 @@ use Rattle.cms_model.specs.Records.{Fits, length_of, longest, stored, with_lengt
 use Rattle.cms_model.proofs.Records.{stored_append}
 use Rattle.cms_records.specs.Views.{fitted}
 use Rattle.cms_disk.proofs.Gathering.{longest_append}
-use Rattle.cms_files.specs.Gathering.{AreFile, IsGathered, record_in}
-use Rattle.cms_files.specs.declared.gathering.Gathered.{Gathered}
+use Rattle.cms_files.specs.Gathered.{AreFile, IsGathered, record_in}
+use Rattle.cms_files.specs.declared.gathered.Gathered.{Gathered}
 
 -- ---- none so far
 

@@ -1,8 +1,8 @@
 -- Lines that are stacked one after another.
 use Rattle.std.proofs.Common.{◌≡◌, ℕ, List, [], append-nil, refl, sym}
-use Rattle.cms_files.specs.Stacking.{StacksSome, stacked}
-use Rattle.cms_files.specs.declared.stacking.StackEnd.{StackEnd}
-use Rattle.cms_files.specs.declared.stacking.StackEnd.TheVariants.{Front, Back}
+use Rattle.cms_files.specs.StackedLines.{StacksSome, stacked}
+use Rattle.cms_files.specs.declared.stack.StackEnd.{StackEnd}
+use Rattle.cms_files.specs.declared.stack.StackEnd.TheVariants.{Front, Back}
 
 -- no line is stacked
 pub stacked_none : (end : StackEnd) (was : List (List ℕ)) → was ≡ stacked end [] was

@@ -14,8 +14,8 @@ use Rattle.cms_search.specs.Searches.{Listed, Shelf, Shelves, item_at}
 use Rattle.cms_search.specs.Tables.{Accesses, Seated, letters_in, letters_of, listed_held, shelf_of, shelves_of, writing}
 use Rattle.cms_search.specs.declared.fault.SearchFault.{SearchFault}
 use Rattle.cms_search.specs.declared.fault.SearchFault.TheVariants as why
-use Rattle.cms_search.proofs.Meeting.{letter_is}
-use Rattle.cms_search.proofs.Searching.{item_at_map}
+use Rattle.cms_search.proofs.LetterDisks.{letter_is}
+use Rattle.cms_search.proofs.Searches.{item_at_map}
 use Rattle.cms_search.proofs.Shown.{position_named, shelf_at, shelf_none}
 use Rattle.cms_search.proofs.Stepped.{written_at}
 use Rattle.cms_files.specs.Files.{files_written, found_shelf, has_name, is_taken, shelf_with, some_found, with_name, writable, writable_shelf}

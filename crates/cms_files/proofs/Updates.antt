@@ -14,25 +14,25 @@ use Rattle.cms_search.specs.Calls.{Acts, Comes, Does, Meaning, Spot, course_of, 
 use Rattle.cms_search.specs.ChangeTold.{told_tree}
 use Rattle.cms_search.specs.Machine.{Course, Letter, Machine, letter_at}
 use Rattle.cms_line.specs.declared.token.Token.{Token}
+use Rattle.cms_search.specs.DeviceSteps.{Changing, Did, Failed, Stepped, changing_of, changing_tree, unless_failed}
 use Rattle.cms_search.specs.Searches.{Shelf, Shelves, item_at, shelves_in}
-use Rattle.cms_search.specs.Stepping.{Changing, Did, Failed, Stepped, changing_of, changing_tree, unless_failed}
 use Rattle.cms_search.specs.Tables.{Seated, shelves_of}
 use Rattle.cms_search.specs.declared.fault.SearchFault.{SearchFault}
 use Rattle.cms_search.specs.declared.state.Course as declared
 use Rattle.cms_search.specs.declared.state.Course.TheVariants as course
 use Rattle.cms_search.specs.declared.state.End.{End}
 use Rattle.cms_search.specs.declared.state.State.{State}
-use Rattle.cms_search.specs.declared.stepping.Changed as declared_changed
-use Rattle.cms_search.specs.declared.stepping.Changed.TheVariants as was
+use Rattle.cms_search.specs.declared.device_step.Changed as declared_changed
+use Rattle.cms_search.specs.declared.device_step.Changed.TheVariants as was
 use Rattle.cms_search.proofs.Acts.{acts_after, acts_done, acts_same, acts_stop, comes_does, comes_in, comes_same, comes_then, does_stop, refused}
-use Rattle.cms_search.proofs.Meeting.{holds_shows, letter_is}
+use Rattle.cms_search.proofs.LetterDisks.{holds_shows, letter_is}
 use Rattle.cms_search.proofs.Released.{vdev_is}
 use Rattle.cms_search.proofs.Shown.{shelves_shown}
-use Rattle.cms_search.proofs.Staying.{acts_stayed}
+use Rattle.cms_search.proofs.StateCalls.{acts_stayed}
 use Rattle.cms_files.specs.Files.{found_shelf, search_refused}
-use Rattle.cms_files.specs.Updating.{names_of, on_step, places_without, stopping, telling, updated, updated_of, updating_each, updating_tree, vdev_at, with_stopped}
-use Rattle.cms_files.specs.declared.updating.Updated as declared_updated
-use Rattle.cms_files.specs.declared.updating.Updated.TheVariants as came
+use Rattle.cms_files.specs.Updates.{names_of, on_step, places_without, stopping, telling, updated, updated_of, updating_each, updating_tree, vdev_at, with_stopped}
+use Rattle.cms_files.specs.declared.update.Updated as declared_updated
+use Rattle.cms_files.specs.declared.update.Updated.TheVariants as came
 
 -- ---- an update that ends the command
 

@@ -13,9 +13,9 @@ use Rattle.cms_operands.specs.Refusals.{code_of, message_of}
 use Rattle.cms_operands.specs.declared.operand.WriteMode.{WriteMode}
 use Rattle.cms_operands.specs.declared.refusal.Refusal.{Refusal}
 use Rattle.cms_search.specs.Machine.{Letter, Machine, Course, minidisk_in, refusal}
-use Rattle.cms_search.specs.Refusing.{no_disk}
+use Rattle.cms_search.specs.Refusals.{no_disk}
 use Rattle.cms_search.specs.Searches.{Listed, Shelf, Shelves, item_at, look_up, shelves_in}
-use Rattle.cms_search.specs.Telling.{device_text, letter_text}
+use Rattle.cms_search.specs.Texts.{device_text, letter_text}
 use Rattle.cms_search.specs.declared.fault.SearchFault.{SearchFault}
 use Rattle.cms_search.specs.declared.fault.SearchFault.TheVariants as why
 use Rattle.cms_search.specs.declared.search.Found.{Found}

@@ -1,10 +1,10 @@
 pub mod Identifiers
-pub mod Opening
+pub mod OpenFiles
 pub mod Files
-pub mod Updating
-pub mod Consuming
-pub mod Stacking
-pub mod Pushing
-pub mod Gathering
+pub mod Updates
+pub mod ModeThree
+pub mod StackedLines
+pub mod Pushes
+pub mod Gathered
 pub mod Told
 pub mod Unfound

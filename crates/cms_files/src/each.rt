@@ -2,16 +2,16 @@
 ghost use Rattle.std.specs.Prelude.{◌≡◌, ◌≤◌, true, All};
 ghost use Rattle.cms_fields.specs.Moments.{is_moment};
 ghost use Rattle.cms_search.specs.Calls.{Acts, IsUsable, course_of, machine_of, spot};
+ghost use Rattle.cms_search.specs.DeviceSteps.{Stepped};
 ghost use Rattle.cms_search.specs.Machine.{Machine};
 ghost use Rattle.cms_search.specs.Searches.{Listed};
-ghost use Rattle.cms_search.specs.Stepping.{Stepped};
 ghost use Rattle.cms_machine.specs.Acts.{Act};
-ghost use Rattle.cms_files.specs.Updating.{updated_of, updating_each, updating_taken};
+ghost use Rattle.cms_files.specs.Updates.{updated_of, updating_each, updating_taken};
 
 use crate::identifier::NameChoice;
-use crate::searching::refuse_unfound;
+use crate::refusals::refuse_unfound;
 use crate::taken::{TakenFile, files_written};
-use crate::updating::Updated;
+use crate::update::Updated;
 use cms_line::Tokens;
 use cms_operands::WriteMode;
 use cms_search::{Course, End, State};

@@ -3,8 +3,8 @@ use Rattle.std.proofs.Common.{◌≡◌, ◌∙◌, ℕ, Bool, true, false, List
 use Rattle.std.specs.Prelude.{IfOk, if◌then◌else◌, pos, Option, Some, None}
 use Rattle.std.specs.Option.{option_map_or}
 use Rattle.cms_machine.specs.Acts.{Act, Done, bind, saying, typed_line}
-use Rattle.cms_files.specs.Stacking.{stacking}
-use Rattle.cms_files.specs.declared.stacking.StackEnd.{StackEnd}
+use Rattle.cms_files.specs.StackedLines.{stacking}
+use Rattle.cms_files.specs.declared.stack.StackEnd.{StackEnd}
 use Rattle.cms_search.specs.Calls.{Acts, Does, Spot, course_of, itself, machine_of, said}
 use Rattle.cms_operands.specs.declared.refusal.Refusal.{Refusal}
 use Rattle.cms_search.specs.Machine.{Machine, Went, typing}
@@ -16,13 +16,13 @@ use Rattle.cms_search.specs.declared.state.Course.TheVariants as course
 use Rattle.cms_search.specs.declared.state.End.{End}
 use Rattle.cms_world.specs.Seen.{Seen}
 use Rattle.cms_search.proofs.Acts.{acts_same}
+use Rattle.cms_search.proofs.LetterDisks.{holds_shows}
 use Rattle.cms_search.proofs.Lined.{Reached, acts_typed, nothing, reached_none, reached_off, reached_on, reached_to, said_one, typing_more, typing_none, typing_then}
-use Rattle.cms_search.proofs.Meeting.{holds_shows}
-use Rattle.cms_search.proofs.Talking.{silent}
-use Rattle.cms_files.specs.Updating.{went}
+use Rattle.cms_search.proofs.Talks.{silent}
+use Rattle.cms_files.specs.Updates.{went}
 use Rattle.cms_files.proofs.Stacked.{stacks_none}
+use Rattle.cms_listfile.specs.Lines.{header, line_to, lines_of, told_columns, years_of}
 use Rattle.cms_listfile.specs.Listfile.{files_listed, with_header}
-use Rattle.cms_listfile.specs.Listing.{header, line_to, lines_of, told_columns, years_of}
 use Rattle.cms_listfile.specs.Told.{StacksFound, StacksLine, StacksListing, line_told, lines_told, listed_at}
 use Rattle.cms_listfile.specs.declared.columns.Columns.{Columns}
 use Rattle.cms_listfile.specs.declared.line.ListedFile.{ListedFile}

@@ -18,7 +18,7 @@ use Rattle.cms_edf.specs.Asking as asked
 use Rattle.cms_edf.specs.declared.held.FileInfo.{FileInfo}
 use Rattle.cms_disk.specs.Disks.{Accessed, StandsIn}
 use Rattle.cms_disk.proofs.Finding.{stands_tells}
-use Rattle.cms_listfile.specs.Listing.{data_blocks, info_of}
+use Rattle.cms_listfile.specs.Lines.{data_blocks, info_of}
 
 -- ---- data blocks
 

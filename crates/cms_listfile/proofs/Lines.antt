@@ -16,14 +16,14 @@ use Rattle.cms_search.specs.Machine.{Letter, Machine, letter_at, typing}
 use Rattle.cms_search.specs.Searches.{item_at}
 use Rattle.cms_search.specs.Shows.{Shows}
 use Rattle.cms_search.specs.Tables.{Accesses, Seated}
-use Rattle.cms_search.specs.Telling.{left_in, spaced}
+use Rattle.cms_search.specs.Texts.{left_in, spaced}
 use Rattle.cms_search.specs.declared.search.Found.{Found}
 use Rattle.cms_search.specs.declared.state.End.{End}
 use Rattle.cms_world.specs.Seen.{Seen}
 use Rattle.cms_search.proofs.Lined.{Reached, nothing, reached_none, reached_off, reached_on, reached_to, typing_more, typing_none}
 use Rattle.cms_search.proofs.Released.{get_map, letter_told}
 use Rattle.cms_files.specs.Told.{info_found}
-use Rattle.cms_listfile.specs.Listing.{count_of, file_line, header, header_columns, info_of, line_to, lines_in, lines_of, lines_on, stamp_text, told_columns, years_of}
+use Rattle.cms_listfile.specs.Lines.{count_of, file_line, header, header_columns, info_of, line_to, lines_in, lines_of, lines_on, stamp_text, told_columns, years_of}
 use Rattle.cms_listfile.specs.Told.{full_header, line_told, lines_told, listed_at, listed_on, width}
 use Rattle.cms_listfile.specs.declared.columns.Columns.{Columns}
 use Rattle.cms_listfile.specs.declared.columns.Columns.TheVariants as to

@@ -8,12 +8,12 @@ use Rattle.cms_names.specs.declared.name.Format.TheVariants.{F}
 use Rattle.cms_fields.specs.declared.time.Stamp.{Stamp}
 use Rattle.cms_text.specs.Texts.{coded}
 use Rattle.cms_model.specs.declared.file.FileData.{FileData}
-use Rattle.cms_files.specs.Gathering.{AreData, IsGathered, record_in}
-use Rattle.cms_files.specs.declared.gathering.Gathered.{Gathered}
+use Rattle.cms_files.specs.Gathered.{AreData, IsGathered, record_in}
+use Rattle.cms_files.specs.declared.gathered.Gathered.{Gathered}
 use Rattle.cms_search.specs.Tables.{Accesses}
 use Rattle.cms_search.specs.declared.search.Found.{Found}
+use Rattle.cms_listfile.specs.Lines.{line_to, told_columns, years_of}
 use Rattle.cms_listfile.specs.Listfile.{procedure_lines, records_in}
-use Rattle.cms_listfile.specs.Listing.{line_to, told_columns, years_of}
 use Rattle.cms_listfile.specs.Told.{line_told, lines_told, listed_at}
 use Rattle.cms_listfile.specs.declared.columns.Columns.{Columns}
 use Rattle.cms_listfile.specs.declared.line.ListedFile.{ListedFile}

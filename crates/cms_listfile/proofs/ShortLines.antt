@@ -11,8 +11,8 @@ use Rattle.cms_names.specs.Names.{is_between, is_name_character, is_part, is_tex
 use Rattle.cms_text.specs.Limits.{longest_text}
 use Rattle.cms_text.specs.Numbers.{decimal_of, written}
 use Rattle.cms_text.specs.Texts.{ebcdic, without_trailing_blanks}
-use Rattle.cms_search.specs.Telling.{left_in, right_in}
-use Rattle.cms_listfile.specs.Listing.{years_of}
+use Rattle.cms_search.specs.Texts.{left_in, right_in}
+use Rattle.cms_listfile.specs.Lines.{years_of}
 use Rattle.cms_listfile.specs.Told.{full_header, width}
 use Rattle.cms_listfile.specs.declared.columns.Columns.{Columns}
 use Rattle.cms_listfile.specs.declared.columns.Columns.TheVariants as to

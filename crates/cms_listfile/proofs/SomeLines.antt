@@ -12,7 +12,7 @@ use Rattle.cms_search.specs.Searches.{Shelf, found_among, found_at, found_in, fo
 use Rattle.cms_search.specs.Tables.{Accesses, Seated, listed_held, shelf_of, shelves_of}
 use Rattle.cms_search.specs.declared.fault.SearchFault.{SearchFault}
 use Rattle.cms_search.specs.declared.search.Found.{Found}
-use Rattle.cms_search.proofs.Searching.{item_at_map}
+use Rattle.cms_search.proofs.Searches.{item_at_map}
 use Rattle.cms_model.proofs.Results.{ok_same}
 use Rattle.cms_listfile.specs.Told.{HasLines, line_told, lines_told, listed_at, listed_on}
 use Rattle.cms_listfile.specs.declared.columns.Columns.{Columns}

@@ -13,7 +13,7 @@ use Rattle.cms_machine.specs.Slots.{Slot}
 use Rattle.cms_edf.specs.declared.held.FileInfo.{FileInfo}
 use Rattle.cms_disk.specs.Drafts.{file_with, shape_of}
 use Rattle.cms_files.specs.Files.{UnitFile, file_on}
-use Rattle.cms_files.specs.Gathering.{AreData}
+use Rattle.cms_files.specs.Gathered.{AreData}
 use Rattle.cms_files.specs.Told.{info_named}
 use Rattle.cms_files.proofs.FileTold.{IsTold, file_told}
 use Rattle.cms_files.proofs.LastUpdates.{acts_changed, last_tree}
@@ -23,9 +23,9 @@ use Rattle.cms_search.specs.declared.fault.SearchFault.{SearchFault}
 use Rattle.cms_search.specs.declared.search.Found.{Found}
 use Rattle.cms_search.specs.declared.state.Course as declared
 use Rattle.cms_search.specs.declared.state.End.{End}
-use Rattle.cms_search.proofs.Meeting.{holds_shows}
+use Rattle.cms_search.proofs.LetterDisks.{holds_shows}
+use Rattle.cms_listfile.specs.Lines.{lines_of}
 use Rattle.cms_listfile.specs.Listfile.{added_lines, disk_a, new_procedure, procedure_lines, records_in, writing, written_change, written_length, written_name}
-use Rattle.cms_listfile.specs.Listing.{lines_of}
 use Rattle.cms_listfile.specs.Told.{lines_told}
 use Rattle.cms_listfile.specs.declared.columns.Columns.{Columns}
 use Rattle.cms_listfile.proofs.Lines.{lines_shown}

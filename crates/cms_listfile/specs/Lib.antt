@@ -1,3 +1,3 @@
-pub mod Listing
+pub mod Lines
 pub mod Listfile
 pub mod Told

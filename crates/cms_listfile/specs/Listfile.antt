@@ -18,17 +18,17 @@ use Rattle.cms_operands.specs.declared.choosing.ChosenOption.{ChosenOption}
 use Rattle.cms_operands.specs.declared.choosing.OptionForm.{OptionForm}
 use Rattle.cms_operands.specs.declared.refusal.Refusal.{Refusal}
 use Rattle.cms_search.specs.Machine.{Machine, Course, letter_at, typing}
-use Rattle.cms_search.specs.Refusing.{on_line}
+use Rattle.cms_search.specs.Refusals.{on_line}
 use Rattle.cms_search.specs.Searches.{Shelf, fitting, search, shelves_in}
 use Rattle.cms_search.specs.declared.fault.SearchFault.{SearchFault}
 use Rattle.cms_search.specs.declared.search.Found.{Found}
 use Rattle.cms_files.specs.Files.{UnitFile, file_on, on_found, some_found, writable}
-use Rattle.cms_files.specs.Gathering.{record_in}
+use Rattle.cms_files.specs.Gathered.{record_in}
 use Rattle.cms_files.specs.Identifiers.{exec_kind}
-use Rattle.cms_files.specs.Stacking.{stacking}
-use Rattle.cms_files.specs.Updating.{last_update, went}
-use Rattle.cms_files.specs.declared.stacking.StackEnd.TheVariants.{Front, Back}
-use Rattle.cms_listfile.specs.Listing.{count_of, header, lines_of, whole_years}
+use Rattle.cms_files.specs.StackedLines.{stacking}
+use Rattle.cms_files.specs.Updates.{last_update, went}
+use Rattle.cms_files.specs.declared.stack.StackEnd.TheVariants.{Front, Back}
+use Rattle.cms_listfile.specs.Lines.{count_of, header, lines_of, whole_years}
 use Rattle.cms_listfile.specs.declared.columns.Columns.{Columns}
 use Rattle.cms_listfile.specs.declared.columns.Columns.TheVariants as to
 use Rattle.cms_listfile.specs.declared.columns.Years.TheVariants.{Short}

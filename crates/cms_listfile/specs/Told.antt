@@ -6,15 +6,15 @@ use Rattle.cms_text.specs.Texts.{coded}
 use Rattle.cms_held.specs.Opening.{HeldVolume}
 use Rattle.cms_edf.specs.Asking.{infos_in}
 use Rattle.cms_edf.specs.declared.held.FileInfo.{FileInfo}
-use Rattle.cms_files.specs.Stacking.{StacksSome}
+use Rattle.cms_files.specs.StackedLines.{StacksSome}
 use Rattle.cms_operands.specs.declared.refusal.Refusal.{Refusal}
 use Rattle.cms_search.specs.Machine.{Machine}
 use Rattle.cms_search.specs.Searches.{item_at}
 use Rattle.cms_search.specs.Tables.{Accesses, letters_of, writing}
 use Rattle.cms_search.specs.declared.fault.SearchFault.{SearchFault}
 use Rattle.cms_search.specs.declared.search.Found.{Found}
+use Rattle.cms_listfile.specs.Lines.{line_to, told_columns, years_of}
 use Rattle.cms_listfile.specs.Listfile.{disk_a, files_listed, with_header}
-use Rattle.cms_listfile.specs.Listing.{line_to, told_columns, years_of}
 use Rattle.cms_listfile.specs.declared.columns.Columns.{Columns}
 use Rattle.cms_listfile.specs.declared.columns.Columns.TheVariants as to
 use Rattle.cms_listfile.specs.declared.columns.Years.{Years}

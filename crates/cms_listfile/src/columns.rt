@@ -1,6 +1,6 @@
 // The columns of a line.
 ghost use Rattle.std.specs.Prelude.{◌≡◌};
-ghost use Rattle.cms_listfile.specs.Listing as spec;
+ghost use Rattle.cms_listfile.specs.Lines as spec;
 
 /// How much of a year is shown.
 #[derive(Clone, Copy)]

@@ -2,12 +2,12 @@
 #![tactic(auto)]
 
 mod columns;
+mod command;
+mod found_lines;
 mod line;
 mod listfile;
-mod listing;
-mod running;
-mod writing;
+mod procedure;
 
 pub use columns::{Columns, Years};
+pub use command::run_listfile;
 pub use listfile::{Delivery, ListFiles, ListLine, ListStyle, list_line};
-pub use running::run_listfile;

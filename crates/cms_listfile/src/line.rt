@@ -2,9 +2,9 @@
 ghost use Rattle.std.specs.Prelude.{◌≡◌, ◌≤◌, ◌+◌, ◌/◌, ◌%◌, ◌++◌, ◌∷◌, IfOk, OnOk, length, take};
 ghost use Rattle.cms_text.specs.Limits.{longest_text};
 ghost use Rattle.cms_text.specs.Numbers.{decimal_of};
-ghost use Rattle.cms_search.specs.Telling.{left_in, right_in, spaced};
+ghost use Rattle.cms_search.specs.Texts.{left_in, right_in, spaced};
 ghost use Rattle.cms_files.specs.Files.{mode_text};
-ghost use Rattle.cms_listfile.specs.Listing as spec;
+ghost use Rattle.cms_listfile.specs.Lines as spec;
 ghost use Rattle.cms_listfile.specs.declared.columns.Years.TheVariants.{Short, Whole};
 ghost use Rattle.cms_listfile.specs.Told as told;
 

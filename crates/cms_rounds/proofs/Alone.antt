@@ -10,7 +10,7 @@ use Rattle.cms_search.specs.declared.state.State.{State}
 use Rattle.cms_world.specs.Seen.{Seen}
 use Rattle.cms_search.proofs.Acts.{acts_done, acts_stop, comes_in, comes_same, comes_then}
 use Rattle.exec2_run.specs.State.{Procedure}
-use Rattle.cms_cards.specs.Punching.{Decks}
+use Rattle.cms_cards.specs.PunchedCards.{Decks}
 use Rattle.cms_rounds.specs.Calls.{passed_beside, passed_with, round_with}
 use Rattle.cms_rounds.specs.Decks.{leaving_decks}
 use Rattle.cms_rounds.specs.Procedures.{Round, leaving, passed}

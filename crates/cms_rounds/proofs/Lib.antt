@@ -4,5 +4,5 @@ pub mod Places
 pub mod Rounds
 pub mod Requests
 pub mod Statements
-pub mod Dropping
-pub mod Sending
+pub mod NucleusCalls
+pub mod Subcommands

@@ -7,7 +7,7 @@ use Rattle.cms_machine.specs.Objects.{Object}
 use Rattle.cms_line.specs.declared.token.Token.{Token}
 use Rattle.cms_names.specs.Names.{part_of}
 use Rattle.cms_operands.specs.Operands.{given}
-use Rattle.cms_exec.specs.Finding.{valid_name}
+use Rattle.cms_exec.specs.Searches.{valid_name}
 use Rattle.cms_ext.specs.Objects.{place_of}
 use Rattle.cms_rounds.specs.Lines.{extension_named, extension_of}
 

@@ -13,18 +13,18 @@ use Rattle.cms_search.specs.declared.state.Course.TheVariants as course
 use Rattle.cms_search.specs.declared.state.End.{End}
 use Rattle.cms_search.specs.declared.state.State.{State}
 use Rattle.cms_search.proofs.Acts.{comes_in, comes_same, comes_then, acts_done, acts_same, acts_stop}
-use Rattle.cms_search.proofs.Meeting.{holds_shows}
+use Rattle.cms_search.proofs.LetterDisks.{holds_shows}
 use Rattle.cms_exec.specs.Exec.{Starting, call_command, exec_command, started_of}
-use Rattle.cms_exec.specs.Finding.{called_by}
-use Rattle.cms_exec.specs.declared.started.Started.{Started}
-use Rattle.cms_exec.specs.declared.started.Started.TheVariants as call
+use Rattle.cms_exec.specs.Searches.{called_by}
+use Rattle.cms_exec.specs.declared.start.Started.{Started}
+use Rattle.cms_exec.specs.declared.start.Started.TheVariants as call
 use Rattle.cms_ext.specs.Calls.{desk_of, ended_of, run_tree}
 use Rattle.cms_ext.specs.Extensions.{Desk, Ended}
 use Rattle.cms_ext.specs.Objects.{words_of}
 use Rattle.exec2_run.specs.declared.exec.FileName.{FileName}
 use Rattle.cms_cards.specs.Calls.{cards_tree, dealt_of}
 use Rattle.cms_cards.specs.Cards.{Dealt}
-use Rattle.cms_cards.specs.Punching.{Decks}
+use Rattle.cms_cards.specs.PunchedCards.{Decks}
 use Rattle.cms_cards.specs.declared.command.CardCommand.{CardCommand}
 use Rattle.cms_rounds.specs.Commands.{is_comment, request_of}
 use Rattle.cms_rounds.specs.Decks.{leaving_decks}
@@ -34,8 +34,8 @@ use Rattle.cms_rounds.specs.Calls.{command_tree, issue_tree, issued_beside, issu
 use Rattle.cms_rounds.specs.declared.command.Command.{Command}
 use Rattle.cms_rounds.specs.declared.command.Request.{Request}
 use Rattle.cms_rounds.specs.declared.command.Request.TheVariants as ask
-use Rattle.cms_rounds.specs.declared.issuing.Issued as declared_issued
-use Rattle.cms_rounds.specs.declared.issuing.Issued.TheVariants as line
+use Rattle.cms_rounds.specs.declared.dispatch.Issued as declared_issued
+use Rattle.cms_rounds.specs.declared.dispatch.Issued.TheVariants as line
 use Rattle.cms_rounds.proofs.Alone.{acts_alone, alone, decked, leaves_off, leaves_so}
 use Rattle.cms_rounds.proofs.Rounds.{done_here}
 

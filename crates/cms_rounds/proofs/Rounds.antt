@@ -21,7 +21,7 @@ use Rattle.cms_search.specs.declared.state.End.{End}
 use Rattle.cms_search.specs.declared.state.End.TheVariants.{Edge}
 use Rattle.cms_search.specs.declared.state.State.{State}
 use Rattle.cms_search.proofs.Acts.{acts_talks, comes_then, comes_in, comes_same, acts_done, acts_after, acts_same, acts_stop, refused}
-use Rattle.cms_search.proofs.Talking.{Came, came_none, came_to, took, stayed}
+use Rattle.cms_search.proofs.Talks.{Came, came_none, came_to, took, stayed}
 use Rattle.cms_search.proofs.Turns.{cut_talks, done_talks, talks_kept}
 use Rattle.cms_search.proofs.Unread.{comes_unread}
 use Rattle.cms_search.specs.Tables.{Accesses, without_readings}
@@ -29,7 +29,7 @@ use Rattle.cms_world.specs.Seen.{Seen}
 use Rattle.cms_ext.specs.Calls.{desk_of}
 use Rattle.cms_ext.specs.Extensions.{desk}
 use Rattle.exec2_run.specs.State.{Procedure}
-use Rattle.cms_cards.specs.Punching.{Decks}
+use Rattle.cms_cards.specs.PunchedCards.{Decks}
 use Rattle.cms_rounds.specs.Rounds.{line_round, on_turn, on_taken, round, run_item}
 use Rattle.cms_rounds.specs.Procedures.{Passed, Round, Ready, ended, readied, statement}
 use Rattle.cms_search.specs.Turns.{machine_now, turning_tree}

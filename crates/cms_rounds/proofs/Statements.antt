@@ -8,12 +8,12 @@ use Rattle.cms_machine.specs.Slots.{Slot}
 use Rattle.cms_machine.specs.Acts.{Act, Done, Out, bind, saying, typed_line}
 use Rattle.cms_machine.proofs.Join.{broke_here}
 use Rattle.cms_line.specs.Stack.{most_lines}
-use Rattle.cms_search.specs.Asking as asks
+use Rattle.cms_search.specs.Asks as asks
 use Rattle.cms_search.specs.Calls.{Spot, SpotWith, Does, Acts, Comes, itself, said, machine_of, course_of}
 use Rattle.cms_search.specs.Machine.{Machine, Course, Went, OutOfTurns, typing}
 use Rattle.cms_search.specs.Talks.{ask_tree, asked_of}
-use Rattle.cms_search.specs.declared.asking.Asked.{Asked}
-use Rattle.cms_search.specs.declared.asking.Asked.TheVariants.{Given, Spent}
+use Rattle.cms_search.specs.declared.asked_line.Asked.{Asked}
+use Rattle.cms_search.specs.declared.asked_line.Asked.TheVariants.{Given, Spent}
 use Rattle.cms_search.specs.declared.state.Course as declared
 use Rattle.cms_search.specs.declared.state.Course.TheVariants as course
 use Rattle.cms_search.specs.declared.state.End.{End}
@@ -24,7 +24,7 @@ use Rattle.cms_search.proofs.Lined.{Reached, nothing, reached_none, reached_on, 
 use Rattle.cms_world.specs.Seen.{Seen}
 use Rattle.cms_ext.specs.Calls.{desk_of}
 use Rattle.cms_ext.specs.Extensions.{desk}
-use Rattle.cms_files.specs.Stacking.{stacking}
+use Rattle.cms_files.specs.StackedLines.{stacking}
 use Rattle.exec2_run.specs.Relation.{Moved}
 use Rattle.exec2_run.specs.Steps.{Takes, code_taken}
 use Rattle.exec2_run.specs.Steps as exec
@@ -32,7 +32,7 @@ use Rattle.exec2_run.specs.State.{Procedure}
 use Rattle.exec2_run.specs.declared.want.Side.{Side}
 use Rattle.exec2_run.specs.declared.want.Want.{Want}
 use Rattle.exec2_run.proofs.Places.{from_place}
-use Rattle.cms_cards.specs.Punching.{Decks}
+use Rattle.cms_cards.specs.PunchedCards.{Decks}
 use Rattle.cms_rounds.specs.Commands.{is_comment}
 use Rattle.cms_rounds.specs.Decks.{leaving_decks}
 use Rattle.cms_rounds.specs.Lines.{Issued, issued}
@@ -40,8 +40,8 @@ use Rattle.cms_rounds.specs.Rounds.{run_line}
 use Rattle.cms_rounds.specs.Procedures.{Passed, Round, Ends, Ready, answered, answered_beside, came_to, end_of, finding, following, given, giving, going_on, idle, leaving, meeting, met, over, readied, settled, stacking_for, statement, statement_with, stepped, unless_over}
 use Rattle.cms_search.specs.Turns.{machine_now, turning_tree}
 use Rattle.cms_rounds.specs.Calls.{answering, issued_beside, issued_of, passed_beside, passed_with, round_with, take_up_tree}
-use Rattle.cms_rounds.specs.declared.issuing.Issued as declared_issued
-use Rattle.cms_rounds.specs.declared.issuing.Issued.TheVariants as issue
+use Rattle.cms_rounds.specs.declared.dispatch.Issued as declared_issued
+use Rattle.cms_rounds.specs.declared.dispatch.Issued.TheVariants as issue
 use Rattle.cms_rounds.specs.declared.state.Round as rounds
 use Rattle.cms_rounds.specs.declared.state.Round.TheVariants as end
 use Rattle.cms_rounds.specs.declared.state.Finish.TheVariants as finish

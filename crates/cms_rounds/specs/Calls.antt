@@ -10,16 +10,16 @@ use Rattle.cms_line.specs.declared.message.Message.{Message}
 use Rattle.cms_line.specs.declared.token.Token.{Token}
 use Rattle.cms_search.specs.Calls.{Meaning, course_of, machine_of}
 use Rattle.cms_search.specs.Machine.{Machine, Course, refusal, typing}
-use Rattle.cms_search.specs.Asking.{ask}
+use Rattle.cms_search.specs.Asks.{ask}
 use Rattle.cms_search.specs.declared.state.State.{State}
 use Rattle.cms_ext.specs.Calls.{desk_of, ended_of}
 use Rattle.cms_ext.specs.Extensions.{Ended}
-use Rattle.cms_exec.specs.declared.started.Started.{Started}
-use Rattle.cms_exec.specs.declared.started.Started.TheVariants as call
+use Rattle.cms_exec.specs.declared.start.Started.{Started}
+use Rattle.cms_exec.specs.declared.start.Started.TheVariants as call
 use Rattle.exec2_run.specs.State.{Procedure}
 use Rattle.exec2_run.specs.declared.want.Side.{Side}
 use Rattle.exec2_run.specs.declared.want.Want.{Want}
-use Rattle.cms_cards.specs.Punching.{Decks}
+use Rattle.cms_cards.specs.PunchedCards.{Decks}
 use Rattle.cms_rounds.specs.Decks.{leaving_decks}
 use Rattle.cms_rounds.specs.Lines.{Issued, Came, Begins, issued, obeyed, requested, run_command, taken_up}
 use Rattle.cms_rounds.specs.Nucleus.{nucxdrop, nucxmap}
@@ -28,8 +28,8 @@ use Rattle.cms_rounds.specs.Procedures.{Session, Round, Ends, Ready, Passed, pas
 use Rattle.cms_rounds.specs.Rounds.{bad_line, line_round, round, run_item, run_line, taking}
 use Rattle.cms_rounds.specs.Subcommands.{sent, sent_line}
 use Rattle.cms_rounds.specs.declared.command.Command.{Command}
-use Rattle.cms_rounds.specs.declared.issuing.Issued as declared
-use Rattle.cms_rounds.specs.declared.issuing.Issued.TheVariants as line
+use Rattle.cms_rounds.specs.declared.dispatch.Issued as declared
+use Rattle.cms_rounds.specs.declared.dispatch.Issued.TheVariants as line
 use Rattle.cms_rounds.specs.declared.round.Taken.{Taken}
 use Rattle.cms_rounds.specs.declared.round.Taken.TheVariants as given
 use Rattle.cms_rounds.specs.declared.state.Round as declared_round

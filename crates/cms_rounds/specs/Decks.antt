@@ -1,6 +1,6 @@
 -- The decks of the session's reader, beside what knows of none.
 use Rattle.cms_machine.specs.Acts.{Act, Done, bind}
-use Rattle.cms_cards.specs.Punching.{Decks}
+use Rattle.cms_cards.specs.PunchedCards.{Decks}
 
 -- something is done that leaves the decks
 abbrev pub leaving_decks : {A : Type 0} → Decks → Act A → Act (A × Decks)

@@ -17,15 +17,15 @@ use Rattle.cms_access.specs.Format.{format}
 use Rattle.cms_access.specs.Query.{query}
 use Rattle.cms_access.specs.Release.{release}
 use Rattle.cms_cards.specs.Cards.{Dealt, cards}
-use Rattle.cms_cards.specs.Punching.{Decks}
+use Rattle.cms_cards.specs.PunchedCards.{Decks}
 use Rattle.cms_copyfile.specs.Copyfile.{copyfile}
 use Rattle.cms_fileops.specs.Erase.{erase}
 use Rattle.cms_fileops.specs.Rename.{rename}
 use Rattle.cms_fileops.specs.State.{state}
-use Rattle.cms_fileops.specs.Typing.{type_command}
+use Rattle.cms_fileops.specs.TypeCommand.{type_command}
 use Rattle.cms_listfile.specs.Listfile.{listfile}
 use Rattle.cms_exec.specs.Exec.{Starting, HasBegun, IsRefused, call_command, exec_command}
-use Rattle.cms_exec.specs.Finding.{called_by, valid_name}
+use Rattle.cms_exec.specs.Searches.{called_by, valid_name}
 use Rattle.cms_execio.specs.Execio.{execio}
 use Rattle.cms_ext.specs.Extensions.{Desk, Ended, Went, desk, run_extension}
 use Rattle.cms_ext.specs.Objects.{place_of, words_of}

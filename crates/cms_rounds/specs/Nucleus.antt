@@ -11,7 +11,7 @@ use Rattle.cms_operands.specs.Refusals.{code_of, message_of}
 use Rattle.cms_operands.specs.declared.refusal.Refusal.{Refusal}
 use Rattle.cms_search.specs.Machine.{Course, Machine, refusal, typing}
 use Rattle.cms_search.specs.Machine as course
-use Rattle.cms_search.specs.Refusing.{on_line}
+use Rattle.cms_search.specs.Refusals.{on_line}
 use Rattle.cms_ext.specs.Extensions.{Desk, Ended, Went, OutOfTurns, desk}
 use Rattle.cms_ext.specs.Objects.{place_of}
 

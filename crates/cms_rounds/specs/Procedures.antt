@@ -6,14 +6,14 @@ use Rattle.cms_machine.specs.Objects.{Object}
 use Rattle.cms_line.specs.Messages.{message_text}
 use Rattle.cms_line.specs.Stack.{most_lines}
 use Rattle.cms_line.specs.declared.message.Message.TheVariants.{M085}
-use Rattle.cms_search.specs.Asking.{Asked, Given, Spent, ask}
+use Rattle.cms_search.specs.Asks.{Asked, Given, Spent, ask}
 use Rattle.cms_search.specs.Machine.{Machine, turned, Course, Went, OutOfTurns, typing}
-use Rattle.cms_search.specs.Reading.{after}
+use Rattle.cms_search.specs.Places.{after}
 use Rattle.cms_search.specs.Ready.{ready_line}
 use Rattle.cms_search.specs.declared.place_event.PlaceEvent.TheVariants as event
-use Rattle.cms_files.specs.Stacking.{stacked}
-use Rattle.cms_files.specs.declared.stacking.StackEnd.{StackEnd}
-use Rattle.cms_files.specs.declared.stacking.StackEnd.TheVariants as end
+use Rattle.cms_files.specs.StackedLines.{stacked}
+use Rattle.cms_files.specs.declared.stack.StackEnd.{StackEnd}
+use Rattle.cms_files.specs.declared.stack.StackEnd.TheVariants as end
 use Rattle.cms_exec.specs.Exec.{stopped_code}
 use Rattle.exec2_run.specs.Faults.{number_of_fault}
 use Rattle.exec2_run.specs.Relation.{Moved}
@@ -25,7 +25,7 @@ use Rattle.exec2_run.specs.declared.want.Want.{Want}
 use Rattle.exec2_run.specs.declared.want.Want.TheVariants.{Next, Say, Stack, Read, Command, Sub, Ended, Failed}
 use Rattle.cms_ext.specs.Extensions.{Desk, desk}
 use Rattle.cms_ext.specs.Extensions as extension
-use Rattle.cms_cards.specs.Punching.{Decks}
+use Rattle.cms_cards.specs.PunchedCards.{Decks}
 use Rattle.cms_rounds.specs.Decks.{leaving_decks}
 use Rattle.cms_rounds.specs.Lines.{Issued, Came, Begins, issued}
 use Rattle.cms_rounds.specs.Subcommands.{sent_line}

@@ -8,7 +8,7 @@ use Rattle.cms_line.specs.declared.message.Message.TheVariants.{M010, M011}
 use Rattle.cms_search.specs.Machine.{Machine, turned, refusal}
 use Rattle.cms_ext.specs.Extensions.{Desk, desk}
 use Rattle.exec2_run.specs.State.{Procedure}
-use Rattle.cms_cards.specs.Punching.{Decks}
+use Rattle.cms_cards.specs.PunchedCards.{Decks}
 use Rattle.cms_rounds.specs.Commands.{is_comment}
 use Rattle.cms_rounds.specs.Decks.{leaving_decks}
 use Rattle.cms_rounds.specs.Lines.{taken_up}

@@ -2,7 +2,7 @@
 #![tactic(auto)]
 
 mod command;
-mod issuing;
+mod dispatch;
 mod nucleus;
 mod round;
 mod state;

@@ -10,7 +10,7 @@ ghost use Rattle.cms_rounds.specs.Calls.{passed_of, round_of, item_in, taking_tr
 ghost use Rattle.cms_rounds.specs.declared.state.Round.TheVariants.{Ready};
 
 use crate::command::is_comment;
-use crate::issuing::{Issued, take_up};
+use crate::dispatch::{Issued, take_up};
 use crate::state::{Finish, Round, Session};
 use crate::statement::{answer, statement};
 use cms_ext::{ExtList, Extension};

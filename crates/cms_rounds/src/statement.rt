@@ -8,7 +8,7 @@ ghost use Rattle.cms_machine.specs.Acts.{Done, saying, typed_line};
 ghost use Rattle.cms_search.specs.Calls.{spot, spot_with, Acts, Does, IsUsable, itself, said};
 ghost use Rattle.cms_exec.specs.Exec.{stopped_code};
 ghost use Rattle.cms_ext.specs.Objects.{objects_of};
-ghost use Rattle.cms_files.specs.Stacking.{StacksSome};
+ghost use Rattle.cms_files.specs.StackedLines.{StacksSome};
 ghost use Rattle.cms_search.specs.Machine.{typing};
 ghost use Rattle.cms_text.specs.Numbers.{decimal_of};
 ghost use Rattle.cms_world.specs.Seen.{seen};
@@ -17,7 +17,7 @@ ghost use Rattle.cms_rounds.specs.Calls.{passed_of, round_of, waiting};
 ghost use Rattle.cms_rounds.specs.Procedures as spec;
 ghost use Rattle.cms_rounds.specs.declared.state.Round.TheVariants.{Ready};
 
-use crate::issuing::{Issued, issue};
+use crate::dispatch::{Issued, issue};
 use crate::state::{Finish, Round, Session};
 use crate::subcommand::send;
 use cms_ext::{ExtList, Extension};

@@ -7,7 +7,7 @@ ghost use Rattle.cms_ext.specs.Calls.{ended_of};
 ghost use Rattle.cms_ext.specs.Objects.{objects_of};
 ghost use Rattle.cms_rounds.specs.Calls.{send_tree};
 
-use crate::issuing::extension_named;
+use crate::dispatch::extension_named;
 use crate::nucleus::refuse_absent;
 use cms_ext::{ExtList, ExtReply, Extension, run};
 use cms_line::{Line, Word};

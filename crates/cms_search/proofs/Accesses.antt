@@ -32,16 +32,16 @@ use Rattle.cms_disk.specs.declared.fault.AccessFault.TheVariants.{Sync, Open}
 use Rattle.cms_disk.specs.declared.unit.UnitInfo.{UnitInfo}
 use Rattle.cms_disk.proofs.Standing.{state_stands}
 use Rattle.cms_disk.proofs.Quieting.{firm_now}
-use Rattle.cms_search.specs.Accessing.{IsOfAccess, accessing_tree, disk_for, forgetting, opened, refused_as}
+use Rattle.cms_search.specs.Access.{IsOfAccess, accessing_tree, disk_for, forgetting, opened, refused_as}
 use Rattle.cms_search.specs.Calls.{Acts, Holds, IsSeatOf, IsUsable, IsUsableTable, Spot, Usable, at, beside, holds, itself, machine_of, spot_at}
 use Rattle.cms_search.specs.Held.{HoldsTable, HoldsUnit, StandsAs, disk_of as disk_of_unit}
 use Rattle.cms_search.specs.Machine.{Letter, Machine, Places, after_step}
-use Rattle.cms_search.specs.Releasing as releasing
 use Rattle.cms_search.specs.Searches.{has, item_at}
 use Rattle.cms_search.specs.Shows.{device_of}
 use Rattle.cms_search.specs.Tables.{Accesses, EndsAccess, IsTable, LooksAt, Seated, answer_for, letter_for, letters_in, marked, missing_parent, place_of_device, put_on, released, seated, table_after, told_after, unit_of_device, wanted_unit, without}
-use Rattle.cms_search.specs.declared.accessing.AccessEnd.{AccessEnd}
-use Rattle.cms_search.specs.declared.accessing.AccessEnd.TheVariants as ends
+use Rattle.cms_search.specs.Units as releasing
+use Rattle.cms_search.specs.declared.access.AccessEnd.{AccessEnd}
+use Rattle.cms_search.specs.declared.access.AccessEnd.TheVariants as ends
 use Rattle.cms_search.specs.declared.fault.SearchFault.{SearchFault}
 use Rattle.cms_search.specs.declared.fault.SearchFault.TheVariants as why
 use Rattle.cms_search.specs.declared.state.Device.{Device}
@@ -50,14 +50,14 @@ use Rattle.cms_search.specs.declared.state.End.TheVariants.{Memory}
 use Rattle.cms_search.specs.declared.state.State.{State}
 use Rattle.cms_search.specs.declared.table.Seat.{Seat}
 use Rattle.cms_search.proofs.Frames.{holds_touched, same_unit}
-use Rattle.cms_search.proofs.Holding.{holds_some, usable_grown}
+use Rattle.cms_search.proofs.IdleEvents.{holds_some, usable_grown}
 use Rattle.cms_search.proofs.Released.{disk_none, get_map, holds_left, letter_told, quiet_seated, unit_told, vdev_is}
 use Rattle.cms_search.proofs.Seats.{item_here}
-use Rattle.cms_search.proofs.Seating.{disk_beside, disk_seated, letters_seated}
-use Rattle.cms_search.proofs.Staying.{acts_stayed}
+use Rattle.cms_search.proofs.SeatsTaken.{disk_beside, disk_seated, letters_seated}
+use Rattle.cms_search.proofs.StateCalls.{acts_stayed}
 use Rattle.cms_search.proofs.Stepped.{later_changes}
 use Rattle.cms_search.proofs.Sure.{IsMarked, IsSure, IsSureOutcome, marked_as, refused_firm, state_now, sure, sure_broke, sure_line, sure_ran, sync_of, sync_own, synced_is, there_then, units_then}
-use Rattle.cms_search.proofs.Tabling.{item_put, item_without, table_accessed, table_marked}
+use Rattle.cms_search.proofs.Tables.{item_put, item_without, table_accessed, table_marked}
 
 -- ---- devices and letters
 

@@ -19,7 +19,7 @@ use Rattle.cms_search.specs.Machine.{Went}
 use Rattle.cms_search.specs.Calls.{SpotWith, IsLater, IsUsable, Meaning, at, holds, Plays, Does, Acts, Comes, after_world, said, machine_of, course_of, refusal_tree}
 use Rattle.cms_world.specs.Seen.{Seen}
 use Rattle.cms_search.specs.Talks.{Talks}
-use Rattle.cms_search.proofs.Holding.{holds_idle, usable_grown}
+use Rattle.cms_search.proofs.IdleEvents.{holds_idle, usable_grown}
 
 -- ---- counts and journals
 

@@ -8,7 +8,7 @@ use Rattle.cms_machine.specs.Acts.{Done, Out, Take, Turn, typed_line}
 use Rattle.cms_line.specs.declared.message.Message.TheVariants.{M010}
 use Rattle.cms_line.specs.Messages.{message_text}
 use Rattle.cms_search.specs.Machine.{Machine}
-use Rattle.cms_search.specs.Asking.{Given, Spent, ask, asking, on_item}
+use Rattle.cms_search.specs.Asks.{Given, Spent, ask, asking, on_item}
 
 -- a stacked line is given, and the script isn't read
 pub stacked : (s : Machine) (line : List ℕ) (lines : List (List ℕ)) → ask (record s { stack = line ∷ lines }) ≡ Done (Given (record s { stack = lines }) line)

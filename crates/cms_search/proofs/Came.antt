@@ -9,13 +9,13 @@ use Rattle.cms_model.specs.Changes.{Change}
 use Rattle.cms_world.specs.Seen.{Seen}
 use Rattle.cms_disk.specs.declared.fault.DiskFault.{DiskFault}
 use Rattle.cms_search.specs.Calls.{Spot}
-use Rattle.cms_search.specs.Putting.{Updated, UpdatesSeat}
+use Rattle.cms_search.specs.FileWrites.{Updated, UpdatesSeat}
 use Rattle.cms_search.specs.Searches.{item_at}
 use Rattle.cms_search.specs.Seats.{ChangesSeat, HasDevice}
 use Rattle.cms_search.specs.Tables.{Accesses, Seated, letters_of, writing}
 use Rattle.cms_search.specs.declared.state.State.{State}
 use Rattle.cms_search.proofs.Stepped.{if_some, written_at}
-use Rattle.cms_search.proofs.Updating.{changed_so, device_still, still_accessed, updated_so}
+use Rattle.cms_search.proofs.Updates.{changed_so, device_still, still_accessed, updated_so}
 
 -- where a command stands before the update of a table, and behind it
 abbrev pub standing : Seen → State → Spot

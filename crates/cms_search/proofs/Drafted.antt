@@ -4,7 +4,7 @@ use Rattle.std.specs.Prelude.{IfOk, OnOk}
 use Rattle.cms_edf.specs.FileDrafts.{FileDraft, IsSomeDraft}
 use Rattle.cms_disk.specs.Disks.{Accessed}
 use Rattle.cms_disk.specs.declared.fault.DiskFault.{DiskFault}
-use Rattle.cms_search.specs.Drafting.{IsPlannedOn}
+use Rattle.cms_search.specs.Drafts.{IsPlannedOn}
 
 pub planned_on : (d e : Accessed) (r : Result FileDraft DiskFault) → IfOk r (IsSomeDraft d.volume) → OnOk r (d.writable ≡ true) → OnOk r (1 ≤ e.spare) → IfOk r (IsPlannedOn d e)
 planned_on d e (Ok draft) some writable room = record { some = some; writable = writable; room = room }

@@ -23,8 +23,8 @@ use Rattle.cms_line.specs.declared.console.ConsoleLine.{ConsoleLine}
 use Rattle.cms_world.specs.Seen.{Seen}
 use Rattle.cms_search.specs.Calls.{Plays}
 use Rattle.cms_search.specs.Talks.{IsNoLine, KeepsRead, Talks, item_in, standing}
-use Rattle.cms_search.specs.declared.asking.NoLine.{NoLine}
-use Rattle.cms_search.specs.declared.asking.NoLine.TheVariants as no
+use Rattle.cms_search.specs.declared.asked_line.NoLine.{NoLine}
+use Rattle.cms_search.specs.declared.asked_line.NoLine.TheVariants as no
 use Rattle.cms_search.specs.declared.state.End.{End}
 
 -- ---- a call that reads nothing

@@ -13,19 +13,19 @@ use Rattle.cms_disk.specs.Disks.{IsQuiet}
 use Rattle.cms_disk.specs.declared.unit.UnitInfo.{UnitInfo}
 use Rattle.cms_search.specs.Calls.{IsUsableTable, machine_of}
 use Rattle.cms_search.specs.Held.{HoldsTable, HoldsUnit, StandsAs, disk_of}
-use Rattle.cms_search.specs.Leaving.{without_letter}
 use Rattle.cms_search.specs.Machine.{Letter, Places}
-use Rattle.cms_search.specs.Reading.{without_device}
-use Rattle.cms_search.specs.Releasing as releasing
-use Rattle.cms_search.specs.Releasing.{forgotten, letter_with, unit_with, vdev_of}
+use Rattle.cms_search.specs.Places.{without_device}
+use Rattle.cms_search.specs.Release.{without_letter}
 use Rattle.cms_search.specs.Searches.{has, item_at}
 use Rattle.cms_search.specs.Shows.{device_of}
 use Rattle.cms_search.specs.Tables.{Accesses, IsTable, Seated, StandOnce, cleared, letters_in, letters_of, place_of_device, released}
+use Rattle.cms_search.specs.Units as releasing
+use Rattle.cms_search.specs.Units.{forgotten, letter_with, unit_with, vdev_of}
 use Rattle.cms_search.specs.declared.state.State.{State}
 use Rattle.cms_search.specs.declared.state.Device.{Device}
-use Rattle.cms_search.proofs.Searching.{item_at_map}
+use Rattle.cms_search.proofs.Searches.{item_at_map}
 use Rattle.cms_search.proofs.Seats.{disk_there, letters_cleared}
-use Rattle.cms_search.proofs.Tabling.{stays, table_released}
+use Rattle.cms_search.proofs.Tables.{stays, table_released}
 
 -- ---- lists
 

@@ -13,7 +13,7 @@ use Rattle.cms_search.specs.Searches.{item_at}
 use Rattle.cms_search.specs.Seats.{HasDisk}
 use Rattle.cms_search.specs.Tables.{Accesses, IsReadingOf, IsTable, KeepsItsOwn, Seated, StandOnce, cleared, letters_in, reading_on, seat_with, with_disk, with_reading}
 use Rattle.cms_search.specs.declared.readings.KeptReading.{KeptReading}
-use Rattle.cms_search.proofs.Tabling.{item_put}
+use Rattle.cms_search.proofs.Tables.{item_put}
 
 -- ---- options
 

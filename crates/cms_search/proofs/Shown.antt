@@ -23,7 +23,7 @@ use Rattle.cms_search.specs.Tables.{Accesses, Seated, listed_held, told_of, shel
 use Rattle.cms_search.specs.Shows.{Shows}
 use Rattle.cms_search.specs.declared.fault.SearchFault.{SearchFault}
 use Rattle.cms_operands.specs.declared.mode.ReadMode.{ReadMode}
-use Rattle.cms_search.proofs.Searching.{item_at_map}
+use Rattle.cms_search.proofs.Searches.{item_at_map}
 
 -- ---- the disk of a letter
 

@@ -28,30 +28,30 @@ use Rattle.cms_disk.specs.declared.unit.UnitInfo.{UnitInfo}
 use Rattle.cms_disk.proofs.Standing.{minidisk_same}
 use Rattle.cms_search.specs.Calls.{Acts, Comes, Does, IsLater, IsSeatOf, IsUsable, IsUsableTable, Spot, Usable, at, holds, machine_of, said}
 use Rattle.cms_search.specs.Machine.{Letter, Machine, Places, Went, after_step}
-use Rattle.cms_search.specs.Reading.{without_device}
-use Rattle.cms_search.specs.Releasing.{released, vdev_of}
+use Rattle.cms_search.specs.Places.{without_device}
+use Rattle.cms_search.specs.Units.{released, vdev_of}
 use Rattle.cms_search.specs.Searches.{item_at}
-use Rattle.cms_search.specs.Putting.{Updated}
+use Rattle.cms_search.specs.FileWrites.{Updated}
 use Rattle.cms_search.specs.Seats.{MayChange}
 use Rattle.cms_search.specs.Shows.{device_of}
-use Rattle.cms_search.specs.Stepping.{Changing, Did, HasFailed, IsChanged, IsFull, IsLimited, answered, behind, changing_by, changing_in, changing_of, changing_tree}
+use Rattle.cms_search.specs.DeviceSteps.{Changing, Did, HasFailed, IsChanged, IsFull, IsLimited, answered, behind, changing_by, changing_in, changing_of, changing_tree}
 use Rattle.cms_search.specs.Tables.{Accesses, Seated, doubted, letters_in, seat_with, writing}
-use Rattle.cms_search.specs.Telling.{device_text}
+use Rattle.cms_search.specs.Texts.{device_text}
 use Rattle.cms_search.specs.declared.state.Course as declared
 use Rattle.cms_search.specs.declared.state.Course.TheVariants as course
 use Rattle.cms_search.specs.declared.state.End.{End}
 use Rattle.cms_search.specs.declared.state.End.TheVariants.{Memory}
 use Rattle.cms_search.specs.declared.state.State.{State}
-use Rattle.cms_search.specs.declared.stepping.Changed as changes
-use Rattle.cms_search.specs.declared.stepping.Changed.TheVariants as came
+use Rattle.cms_search.specs.declared.device_step.Changed as changes
+use Rattle.cms_search.specs.declared.device_step.Changed.TheVariants as came
 use Rattle.std.proofs.lemmas.Option.{same_Some, slice_get-map}
 use Rattle.cms_search.proofs.Acts.{acts_after, acts_done, comes_does, does_stop}
-use Rattle.cms_search.proofs.Changing.{Steps, change_ran, changed_units, holds_with, on_same, steps_doubted, steps_good}
-use Rattle.cms_search.proofs.Holding.{usable_grown}
-use Rattle.cms_search.proofs.Meeting.{MetAt, letter_is, meets_at, readable_seat}
+use Rattle.cms_search.proofs.Changes.{Steps, change_ran, changed_units, holds_with, on_same, steps_doubted, steps_good}
+use Rattle.cms_search.proofs.IdleEvents.{usable_grown}
+use Rattle.cms_search.proofs.LetterDisks.{MetAt, letter_is, meets_at, readable_seat}
 use Rattle.cms_search.proofs.Seats.{cleared_with, letters_cleared, letters_with, seat_there, table_with, with_disk_is}
-use Rattle.cms_search.proofs.Searching.{item_at_map}
-use Rattle.cms_search.proofs.Tabling.{item_put, stays}
+use Rattle.cms_search.proofs.Searches.{item_at_map}
+use Rattle.cms_search.proofs.Tables.{item_put, stays}
 
 -- ---- what may be called
 

@@ -13,7 +13,7 @@ use Rattle.cms_search.specs.Turns.{machine_now, turning_tree}
 use Rattle.cms_search.specs.declared.state.End.{End}
 use Rattle.cms_search.specs.declared.state.State.{State}
 use Rattle.cms_search.proofs.Acts.{acts_talks}
-use Rattle.cms_search.proofs.Talking.{Came, came_none, came_on, came_off, came_to, of_does}
+use Rattle.cms_search.proofs.Talks.{Came, came_none, came_on, came_off, came_to, of_does}
 
 -- a call of them, and what follows it is done
 pub done_talks : {A R T U : Type 0} {os : List Object} (old new : SpotWith os) (s : Act A) (f : List Slot → A → Act R) (x : T) (d : T → A) (y : U) (m : Meaning U R) → new.state.table ≡ old.state.table

@@ -17,9 +17,9 @@ use Rattle.cms_search.specs.Searches.{item_at}
 use Rattle.cms_search.specs.Tables.{Accesses, IsTable, KeepsItsOwn, Seated, letters_in, unread_seat, without_readings}
 use Rattle.cms_search.specs.declared.state.State.{State}
 use Rattle.cms_search.proofs.Acts.{later_none}
-use Rattle.cms_search.proofs.Holding.{holds_some}
+use Rattle.cms_search.proofs.IdleEvents.{holds_some}
 use Rattle.cms_search.proofs.Released.{held_with}
-use Rattle.cms_search.proofs.Searching.{item_at_map}
+use Rattle.cms_search.proofs.Searches.{item_at_map}
 
 -- ---- letters
 

@@ -4,12 +4,12 @@ use Rattle.cms_text.specs.Numbers.{decimal_of}
 use Rattle.cms_machine.specs.Acts.{Act, Done}
 use Rattle.cms_machine.specs.Slots.{Slot}
 use Rattle.cms_line.specs.declared.message.Message.TheVariants.{M107, M120}
+use Rattle.cms_search.specs.DeviceSteps.{Changing, IsChanged, IsLimited, IsFull, HasFailed, changing_of}
 use Rattle.cms_search.specs.Machine.{Course, Went, refusal}
-use Rattle.cms_search.specs.Refusing.{fault}
-use Rattle.cms_search.specs.Stepping.{Changing, IsChanged, IsLimited, IsFull, HasFailed, changing_of}
-use Rattle.cms_search.specs.Telling.{letter_text}
+use Rattle.cms_search.specs.Refusals.{fault}
+use Rattle.cms_search.specs.Texts.{letter_text}
 use Rattle.cms_search.specs.declared.state.State.{State}
-use Rattle.cms_search.specs.declared.stepping.Changed as declared
+use Rattle.cms_search.specs.declared.device_step.Changed as declared
 
 -- the code of a limit
 abbrev pub limited : ℕ

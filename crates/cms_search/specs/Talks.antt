@@ -9,14 +9,14 @@ use Rattle.cms_machine.specs.Acts.{Act}
 use Rattle.cms_machine.specs.Objects.{Object}
 use Rattle.cms_machine.specs.Points.{Point}
 use Rattle.cms_line.specs.ConsoleState.{ConsoleState}
-use Rattle.cms_search.specs.Asking as asking
+use Rattle.cms_search.specs.Asks as asking
 use Rattle.cms_world.specs.Seen.{Seen}
 use Rattle.cms_search.specs.Calls.{Meaning, Plays, machine_of}
 use Rattle.cms_search.specs.Machine.{Machine}
-use Rattle.cms_search.specs.declared.asking.Asked.{Asked}
-use Rattle.cms_search.specs.declared.asking.Asked.TheVariants.{Given, Spent}
-use Rattle.cms_search.specs.declared.asking.NoLine.{NoLine}
-use Rattle.cms_search.specs.declared.asking.NoLine.TheVariants as no
+use Rattle.cms_search.specs.declared.asked_line.Asked.{Asked}
+use Rattle.cms_search.specs.declared.asked_line.Asked.TheVariants.{Given, Spent}
+use Rattle.cms_search.specs.declared.asked_line.NoLine.{NoLine}
+use Rattle.cms_search.specs.declared.asked_line.NoLine.TheVariants as no
 use Rattle.cms_search.specs.declared.state.State.{State}
 use Rattle.cms_search.specs.declared.state.End.{End}
 use Rattle.cms_search.specs.declared.state.End.TheVariants.{Edge}

@@ -4,7 +4,7 @@ ghost use Rattle.std.specs.Ordering.{nat_cmp};
 ghost use Rattle.std.specs.Cmp.{partial_equiv_from_equiv, partial_order_from_agreeing_total, unsigned_ties};
 ghost use Rattle.std.specs.Cmp.Lexicographic.{pointwise, slice_cmp, nat_list_cmp_total, nat_list_eq_equiv, lists_ties};
 ghost use Rattle.cms_search.specs.Machine.{place_key};
-ghost use Rattle.cms_search.specs.Reading.{is_of_device};
+ghost use Rattle.cms_search.specs.Places.{is_of_device};
 ghost use Rattle.std.proofs.Common.{refl};
 
 use arrayvec::ArrayVec;

@@ -2,7 +2,7 @@
 ghost use Rattle.std.specs.Prelude.{◌≡◌, OnOk, OnErr};
 ghost use Rattle.std.specs.FinMap as finite;
 ghost use Rattle.cms_search.specs.Machine.{place_key};
-ghost use Rattle.cms_search.specs.Reading.{after, without_device};
+ghost use Rattle.cms_search.specs.Places.{after, without_device};
 
 use crate::place_event::PlaceEvent;
 use crate::place_key::PlaceKey;

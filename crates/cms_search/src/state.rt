@@ -6,7 +6,7 @@ ghost use Rattle.cms_search.specs.Tables.{HaveDistinctDevices};
 ghost use Rattle.cms_search.specs.Talks.{KeepsRead, ask_tree, asked_of};
 ghost use Rattle.cms_search.specs.declared.state.End.TheVariants.{Memory};
 
-use crate::asking::{Asked, ask};
+use crate::asked_line::{Asked, ask};
 use crate::places::Places;
 use crate::table::{Table, UnitList};
 use cms_fields::{FIRST_MOMENT, Moment};

@@ -10,7 +10,7 @@ use Rattle.cms_search.specs.Turns.{machine_now}
 use Rattle.cms_search.proofs.Acts.{comes_then, comes_in, comes_same, acts_done, acts_after, acts_stop}
 use Rattle.cms_ext.specs.Calls.{desk_of}
 use Rattle.exec2_run.specs.State.{Procedure}
-use Rattle.cms_cards.specs.Punching.{Decks}
+use Rattle.cms_cards.specs.PunchedCards.{Decks}
 use Rattle.cms_rounds.specs.Calls.{passed_beside}
 use Rattle.cms_rounds.specs.declared.state.Finish.{Finish}
 use Rattle.cms_rounds.specs.declared.state.Round as rounds

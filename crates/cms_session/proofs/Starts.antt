@@ -24,7 +24,7 @@ use Rattle.cms_search.specs.Held.{HoldsTable, HoldsUnit, StandsAs, disk_of as di
 use Rattle.cms_search.specs.Shows.{devices_of}
 use Rattle.cms_search.specs.Tables.{HaveDistinctDevices, Seated, new_table}
 use Rattle.cms_search.specs.declared.state.Device.{Device}
-use Rattle.cms_search.proofs.Tabling.{table_new}
+use Rattle.cms_search.proofs.Tables.{table_new}
 use Rattle.cms_words.specs.declared.unit.UnitWord.{UnitWord}
 use Rattle.cms_session.specs.Headline.{fresh, settled}
 use Rattle.cms_session.specs.Sessions.{AreAttached, AttachesAll, HaveSizes, devices_on, info_of, infos_on}

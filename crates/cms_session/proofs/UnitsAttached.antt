@@ -14,7 +14,7 @@ use Rattle.cms_model.specs.Volumes.{disk_of}
 use Rattle.cms_disk.specs.declared.unit.UnitInfo.{UnitInfo}
 use Rattle.cms_search.specs.Calls.{IsUsableUnit, Usable}
 use Rattle.cms_search.specs.Tables.{HaveDistinctDevices, new_table}
-use Rattle.cms_search.proofs.Tabling.{none_replicated}
+use Rattle.cms_search.proofs.Tables.{none_replicated}
 use Rattle.cms_world.specs.Seen.{Seen}
 use Rattle.cms_words.specs.Words.{devices_of, has_device, repeated_device, without_repeat}
 use Rattle.cms_words.specs.declared.fault.WordFault.{WordFault}

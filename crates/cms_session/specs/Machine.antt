@@ -6,11 +6,11 @@ use Rattle.cms_machine.specs.Steps.{Outcome}
 use Rattle.cms_machine.specs.Items.{items}
 use Rattle.cms_machine.specs.Acts.{Act, Done, bind}
 use Rattle.cms_machine.specs.Feeds.{Fed, feed}
-use Rattle.cms_search.specs.Accessing.{accessing}
+use Rattle.cms_search.specs.Access.{accessing}
 use Rattle.cms_search.specs.Machine.{Machine}
 use Rattle.cms_ext.specs.Extensions.{Desk, desk}
 use Rattle.exec2_run.specs.State.{Procedure}
-use Rattle.cms_cards.specs.Punching.{Decks}
+use Rattle.cms_cards.specs.PunchedCards.{Decks}
 use Rattle.cms_rounds.specs.Procedures.{Passed, Stops, Goes}
 use Rattle.cms_rounds.specs.Rounds.{round}
 use Rattle.cms_rounds.specs.declared.state.Finish.{Finish}

@@ -11,9 +11,9 @@ ghost use Rattle.cms_words.specs.declared.fault.WordFault.{WordFault};
 ghost use Rattle.cms_words.specs.declared.fault.WordFault.TheVariants.{Memory};
 ghost use Rattle.cms_session.specs.Words.{AreUnits, Asked, Runs, asked_of, given_by, read_words};
 
-use crate::attaching::attach_all;
 use crate::session::play;
 use crate::status::Status;
+use crate::units::attach_all;
 use cms_cards::Reader;
 use cms_ext::{ExtList, Extension};
 use cms_generator::script;

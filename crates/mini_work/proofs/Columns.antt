@@ -1,6 +1,6 @@
 -- Columns with one blank between.
 use Rattle.std.proofs.Common.{◌≡◌, ◌∙◌, List, [], ◌∷◌, ◌++◌, ℕ, ap, append_assoc}
-use Rattle.cms_search.specs.Telling.{spaced}
+use Rattle.cms_search.specs.Texts.{spaced}
 
 joined : (a b d e f h i : List ℕ)
     → ((((((a ++ 64 ∷ b) ++ 64 ∷ d) ++ 64 ∷ e) ++ 64 ∷ f) ++ 64 ∷ h) ++ 64 ∷ i) ≡ spaced (a ∷ b ∷ d ∷ e ∷ f ∷ h ∷ i ∷ [])

@@ -10,7 +10,7 @@ use Rattle.cms_held.specs.Opening.{HeldVolume}
 use Rattle.cms_edf.specs.Asking.{space_of}
 use Rattle.cms_edf.specs.declared.held.FileInfo.{FileInfo}
 use Rattle.cms_edf.specs.declared.held.Space.{Space}
-use Rattle.cms_search.specs.Telling.{left_in, right_in, spaced}
+use Rattle.cms_search.specs.Texts.{left_in, right_in, spaced}
 use Rattle.mini_words.specs.declared.names.NamePattern.{NamePattern}
 use Rattle.mini_work.specs.Choosing.{fits_any}
 use Rattle.mini_work.specs.Saying.{name_text}

@@ -3,7 +3,7 @@ ghost use Rattle.std.specs.Prelude.{◌≡◌, ◌+◌, ◌/◌, ◌%◌, ◌++�
 ghost use Rattle.cms_journal.specs.declared.event.Access.TheVariants.{ReadOnly};
 ghost use Rattle.cms_edf.specs.Asking.{infos_in};
 ghost use Rattle.cms_machine.specs.Acts.{typed_line};
-ghost use Rattle.cms_search.specs.Telling.{spaced};
+ghost use Rattle.cms_search.specs.Texts.{spaced};
 ghost use Rattle.cms_text.specs.Numbers.{decimal_of};
 ghost use Rattle.mini_work.specs.Causes.{HasEnd, counts, on_world};
 ghost use Rattle.mini_work.specs.Changing.{IsTold};

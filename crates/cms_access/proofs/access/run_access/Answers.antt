@@ -1,5 +1,5 @@
 use Rattle.std.proofs.Common.{refl}
-use Rattle.cms_search.proofs.Staying.{acts_line, acts_line_fault}
+use Rattle.cms_search.proofs.StateCalls.{acts_line, acts_line_fault}
 use Rattle.cms_access.specs.Access.{access_disk, access_line}
 use Rattle.cms_access.proofs.Lettered.{line_below}
 use Rattle.cms_access.proofs.access.run_access.Goals as goal

@@ -1,6 +1,6 @@
 use Rattle.std.proofs.Common.{refl}
 use Rattle.cms_search.proofs.Acts.{refused}
-use Rattle.cms_search.proofs.Staying.{acts_stayed}
+use Rattle.cms_search.proofs.StateCalls.{acts_stayed}
 use Rattle.cms_access.proofs.access.tell_done.Goals as goal
 
 pub returns-then-read_only : goal.returns-then-read_only

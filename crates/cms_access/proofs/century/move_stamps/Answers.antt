@@ -2,7 +2,7 @@ use Rattle.std.proofs.lemmas.Result.{err_from_is_err_and}
 use Rattle.cms_model.specs.Changes.{Century}
 use Rattle.cms_search.specs.Calls.{course_of}
 use Rattle.cms_search.specs.ChangeTold.{change_told}
-use Rattle.cms_search.specs.Stepping.{changing_of, changing_tree}
+use Rattle.cms_search.specs.DeviceSteps.{changing_of, changing_tree}
 use Rattle.cms_search.proofs.Acts.{acts_stop}
 use Rattle.cms_access.proofs.Questioned.{acts_bind}
 use Rattle.cms_access.proofs.century.move_stamps.Goals as goal

@@ -1,5 +1,5 @@
 use Rattle.std.proofs.Common.{refl}
-use Rattle.cms_search.proofs.Staying.{acts_line, acts_line_fault}
+use Rattle.cms_search.proofs.StateCalls.{acts_line, acts_line_fault}
 use Rattle.cms_access.specs.Century.{century_letter, century_line}
 use Rattle.cms_access.proofs.Centuries.{line_small}
 use Rattle.cms_access.proofs.century.run_century.Goals as goal

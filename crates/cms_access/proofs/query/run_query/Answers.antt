@@ -1,5 +1,5 @@
 use Rattle.std.proofs.Common.{refl}
-use Rattle.cms_search.proofs.Staying.{acts_line, acts_line_fault}
+use Rattle.cms_search.proofs.StateCalls.{acts_line, acts_line_fault}
 use Rattle.cms_access.specs.Query.{answer, query_line}
 use Rattle.cms_access.proofs.query.run_query.Goals as goal
 

@@ -3,13 +3,13 @@ use Rattle.std.proofs.lemmas.Result.{err_from_is_err_and}
 use Rattle.cms_line.specs.declared.message.Message.TheVariants.{M605}
 use Rattle.cms_search.specs.Calls.{spot}
 use Rattle.cms_search.specs.Talks.{asked_of}
-use Rattle.cms_search.specs.declared.asking.Asked.TheVariants.{Given, Spent}
+use Rattle.cms_search.specs.declared.asked_line.Asked.TheVariants.{Given, Spent}
 use Rattle.cms_search.specs.declared.state.Course.TheVariants.{OutOfTurns}
 use Rattle.cms_search.proofs.Acts.{acts_stop}
 use Rattle.cms_access.specs.Format.{on_label}
 use Rattle.cms_access.specs.Questions.{labelling_of, question_tree}
 use Rattle.cms_access.specs.declared.questions.Label.TheVariants.{Ended}
-use Rattle.cms_search.proofs.Staying.{acts_starved}
+use Rattle.cms_search.proofs.StateCalls.{acts_starved}
 use Rattle.cms_access.proofs.Questioned.{acts_bind, acts_over}
 use Rattle.cms_access.proofs.questions.ask_label.Goals as goal
 

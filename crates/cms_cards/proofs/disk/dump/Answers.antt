@@ -3,8 +3,8 @@ use Rattle.std.proofs.lemmas.Result.{err_from_is_err_and}
 use Rattle.cms_search.specs.Calls.{machine_of}
 use Rattle.cms_decks.specs.Dumps as spec
 use Rattle.cms_cards.specs.Cards.{is_full}
-use Rattle.cms_cards.specs.Fetching.{fetching}
-use Rattle.cms_cards.specs.Punching.{Deck}
+use Rattle.cms_cards.specs.Fetch.{fetching}
+use Rattle.cms_cards.specs.PunchedCards.{Deck}
 use Rattle.cms_cards.proofs.Deals.{added_none, added_off, added_so, added_starved, dumped_so}
 use Rattle.cms_cards.proofs.disk.dump.Goals as goal
 

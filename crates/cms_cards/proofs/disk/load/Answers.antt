@@ -1,7 +1,7 @@
 use Rattle.std.proofs.Common.{slice_get}
 use Rattle.std.proofs.lemmas.Result.{err_from_is_err_and}
 use Rattle.cms_search.specs.Calls.{machine_of}
-use Rattle.cms_cards.specs.Loading.{loading}
+use Rattle.cms_cards.specs.FirstDeck.{loading}
 use Rattle.cms_cards.proofs.Deals.{taken_off, taken_so}
 use Rattle.cms_cards.proofs.disk.load.Goals as goal
 

@@ -1,5 +1,5 @@
 use Rattle.std.proofs.Common.{take}
-use Rattle.cms_files.specs.Gathering.{IsGathered}
+use Rattle.cms_files.specs.Gathered.{IsGathered}
 use Rattle.cms_execio.specs.Records.{records_of}
 use Rattle.cms_execio.proofs.record.gather_lines.Given as goal
 

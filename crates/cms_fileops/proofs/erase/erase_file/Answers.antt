@@ -4,7 +4,7 @@ use Rattle.cms_search.specs.Calls.{spot}
 use Rattle.cms_search.specs.Searches.{shelves_in}
 use Rattle.cms_search.specs.Tables.{shelves_of}
 use Rattle.cms_files.specs.Files.{shelf_with}
-use Rattle.cms_files.specs.Updating.{updated_of, updating}
+use Rattle.cms_files.specs.Updates.{updated_of, updating}
 use Rattle.cms_files.proofs.Updates.{acts_step_found, acts_step_unfound, found_on_disks, shelf_from}
 use Rattle.cms_fileops.proofs.erase.erase_file.Goals as goal
 

@@ -1,5 +1,5 @@
 use Rattle.std.proofs.Common.{refl}
-use Rattle.cms_search.proofs.Staying.{acts_line, acts_line_fault}
+use Rattle.cms_search.proofs.StateCalls.{acts_line, acts_line_fault}
 use Rattle.cms_fileops.specs.Erase.{erase_files, erase_line}
 use Rattle.cms_fileops.proofs.erase.run_erase.Goals as goal
 

@@ -5,7 +5,7 @@ use Rattle.cms_search.specs.Searches.{item_at, shelves_in}
 use Rattle.cms_search.specs.Tables.{shelves_of}
 use Rattle.cms_search.proofs.Acts.{acts_same}
 use Rattle.cms_files.specs.Files.{shelf_with}
-use Rattle.cms_files.specs.Updating.{updated_of, updating}
+use Rattle.cms_files.specs.Updates.{updated_of, updating}
 use Rattle.cms_files.proofs.TakenFiles.{shelf_there}
 use Rattle.cms_files.proofs.Updates.{acts_step_found, acts_step_unfound, found_on_disks, shelf_from}
 use Rattle.cms_fileops.specs.Rename.{is_others, others_name, rename_in}

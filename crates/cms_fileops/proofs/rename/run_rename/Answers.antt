@@ -1,5 +1,5 @@
 use Rattle.std.proofs.Common.{refl}
-use Rattle.cms_search.proofs.Staying.{acts_line, acts_line_fault}
+use Rattle.cms_search.proofs.StateCalls.{acts_line, acts_line_fault}
 use Rattle.cms_fileops.specs.Rename.{rename_files, rename_line}
 use Rattle.cms_fileops.proofs.Renames.{line_number}
 use Rattle.cms_fileops.proofs.rename.run_rename.Goals as goal

@@ -1,5 +1,5 @@
 use Rattle.std.proofs.lemmas.Result.{err_from_is_err_and}
-use Rattle.cms_search.proofs.Staying.{acts_starved}
+use Rattle.cms_search.proofs.StateCalls.{acts_starved}
 use Rattle.cms_fileops.proofs.rename.stop_others.Goals as goal
 
 pub returns-in_err-mode : goal.returns-in_err-mode

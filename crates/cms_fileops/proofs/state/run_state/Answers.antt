@@ -1,5 +1,5 @@
 use Rattle.std.proofs.Common.{refl}
-use Rattle.cms_search.proofs.Staying.{acts_line, acts_line_fault}
+use Rattle.cms_search.proofs.StateCalls.{acts_line, acts_line_fault}
 use Rattle.cms_fileops.specs.State.{look_for, state_line}
 use Rattle.cms_fileops.proofs.state.run_state.Goals as goal
 

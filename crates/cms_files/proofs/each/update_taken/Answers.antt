@@ -4,7 +4,7 @@ use Rattle.cms_search.specs.Calls.{spot}
 use Rattle.cms_search.specs.Searches.{shelves_in}
 use Rattle.cms_search.specs.Tables.{shelves_of}
 use Rattle.cms_files.specs.Files.{files_written}
-use Rattle.cms_files.specs.Updating.{updating_each}
+use Rattle.cms_files.specs.Updates.{updating_each}
 use Rattle.cms_files.proofs.Found.{acts_found, acts_search_fault, with_memory}
 use Rattle.cms_files.proofs.Updates.{found_on_disks}
 use Rattle.cms_files.proofs.each.update_taken.Goals as goal

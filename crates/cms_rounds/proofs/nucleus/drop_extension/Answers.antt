@@ -3,7 +3,7 @@ use Rattle.std.proofs.lemmas.Result.{err_from_is_err_and}
 use Rattle.cms_search.proofs.Acts.{comes_none, no_memory}
 use Rattle.cms_files.proofs.Found.{part_is_short}
 use Rattle.cms_world.specs.Seen.{seen}
-use Rattle.cms_rounds.proofs.Dropping.{absent_so, dropped_so}
+use Rattle.cms_rounds.proofs.NucleusCalls.{absent_so, dropped_so}
 use Rattle.cms_rounds.proofs.Places.{place_there}
 use Rattle.cms_rounds.proofs.nucleus.drop_extension.Goals as goal
 

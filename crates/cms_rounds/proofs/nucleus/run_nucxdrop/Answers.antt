@@ -1,5 +1,5 @@
 use Rattle.std.proofs.Common.{refl}
-use Rattle.cms_rounds.proofs.Dropping.{drop_read, drop_refused}
+use Rattle.cms_rounds.proofs.NucleusCalls.{drop_read, drop_refused}
 use Rattle.cms_rounds.proofs.nucleus.run_nucxdrop.Goals as goal
 
 pub returns-in-Ok : goal.returns-in-Ok

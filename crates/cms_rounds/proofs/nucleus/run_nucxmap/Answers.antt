@@ -1,8 +1,8 @@
 use Rattle.std.proofs.lemmas.Result.{err_from_is_err_and}
 use Rattle.std.proofs.Common.{refl}
-use Rattle.cms_search.proofs.Staying.{acts_line, acts_line_fault}
+use Rattle.cms_search.proofs.StateCalls.{acts_line, acts_line_fault}
 use Rattle.cms_rounds.specs.Nucleus.{map_line, mapping}
-use Rattle.cms_rounds.proofs.Dropping.{maps_off, maps_so}
+use Rattle.cms_rounds.proofs.NucleusCalls.{maps_off, maps_so}
 use Rattle.cms_rounds.proofs.nucleus.run_nucxmap.Goals as goal
 
 pub returns-in_err-say_words-in-Ok : goal.returns-in_err-say_words-in-Ok

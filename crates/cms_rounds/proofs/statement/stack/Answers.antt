@@ -1,6 +1,6 @@
 use Rattle.std.proofs.lemmas.Result.{err_from_is_err_and}
 use Rattle.std.proofs.Common.{ℕ, List, subst, sym, ◌∙◌}
-use Rattle.cms_files.specs.Stacking.{StacksSome}
+use Rattle.cms_files.specs.StackedLines.{StacksSome}
 use Rattle.cms_files.proofs.Stacked.{stacks_none}
 use Rattle.cms_rounds.specs.Procedures.{end_of}
 use Rattle.cms_rounds.proofs.Statements.{stacks_off, stacks_so, stacks_spent}

@@ -1,7 +1,7 @@
 use Rattle.std.proofs.Common.{◌∷◌}
 use Rattle.std.proofs.lemmas.Result.{err_from_is_err_and}
 use Rattle.cms_search.proofs.Acts.{comes_none, no_memory}
-use Rattle.cms_rounds.proofs.Sending.{sent_off, sent_so}
+use Rattle.cms_rounds.proofs.Subcommands.{sent_off, sent_so}
 use Rattle.cms_rounds.proofs.statement.subcommand.Goals as goal
 
 pub returns-in_default-clause-acts : goal.returns-in_default-clause-acts

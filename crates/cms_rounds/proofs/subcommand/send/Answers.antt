@@ -3,7 +3,7 @@ use Rattle.cms_world.specs.Seen.{seen}
 use Rattle.cms_search.proofs.Acts.{comes_none, no_memory}
 use Rattle.cms_rounds.proofs.Alone.{standing}
 use Rattle.cms_rounds.proofs.Places.{named_there}
-use Rattle.cms_rounds.proofs.Sending.{refused_so}
+use Rattle.cms_rounds.proofs.Subcommands.{refused_so}
 use Rattle.cms_rounds.proofs.subcommand.send.Goals as goal
 
 pub returns-in_err-word-clause-acts : goal.returns-in_err-word-clause-acts

@@ -2,7 +2,7 @@ use Rattle.std.proofs.Common.{◌<◌, ◌∙◌, length, sym, arith}
 use Rattle.std.specs.Prelude.{◌==◌}
 use Rattle.std.proofs.lemmas.Grind.{common_steps}
 use Rattle.std.proofs.lemmas.List.{length-set}
-use Rattle.cms_search.proofs.Tabling.{keeps, vacates}
+use Rattle.cms_search.proofs.Tables.{keeps, vacates}
 use Rattle.cms_search.proofs.seated.vacate.Goals.{then-is_of_unit, else-is_of_unit}
 use Rattle.cms_search.proofs.seated.vacate.Goals as goal
 

@@ -1,5 +1,5 @@
 use Rattle.std.proofs.Common.{◌∙◌, ◌+◌, ◌%◌, List, [], ◌∷◌, ◌++◌, ℕ, ap}
-use Rattle.cms_search.specs.Telling.{left_in, right_in}
+use Rattle.cms_search.specs.Texts.{left_in, right_in}
 use Rattle.cms_text.specs.Numbers.{decimal_of}
 use Rattle.mini_work.specs.Listing.{format_text, stamp_text}
 use Rattle.mini_work.specs.Saying.{name_text}

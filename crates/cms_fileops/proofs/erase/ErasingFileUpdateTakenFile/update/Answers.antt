@@ -1,7 +1,7 @@
 use Rattle.std.proofs.Common.{◌≡◌, ◌∙◌}
 use Rattle.std.proofs.lemmas.Result.{err_from_is_err_and}
 use Rattle.cms_search.specs.Calls.{machine_of, spot}
-use Rattle.cms_search.proofs.Staying.{acts_starved}
+use Rattle.cms_search.proofs.StateCalls.{acts_starved}
 use Rattle.cms_files.specs.Files.{file_text}
 use Rattle.cms_files.proofs.Updates.{told_behind, told_never}
 use Rattle.cms_fileops.specs.Erase.{erase_file}

@@ -1,5 +1,5 @@
 use Rattle.std.proofs.Common.{◌∙◌, ◌∷◌, ◌++◌, List, ℕ, ap}
-use Rattle.cms_search.specs.Telling.{left_in}
+use Rattle.cms_search.specs.Texts.{left_in}
 use Rattle.cms_listfile.specs.declared.columns.Years.TheVariants.{Short}
 use Rattle.cms_listfile.proofs.Lines.{date_added}
 use Rattle.cms_listfile.proofs.line.ListedFile.to_short_date.Goals as goal

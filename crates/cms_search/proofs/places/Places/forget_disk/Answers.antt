@@ -1,6 +1,6 @@
 use Rattle.std.proofs.Common.{rules}
 use Rattle.std.proofs.lemmas.Map.Made.{filter_same_pairs}
-use Rattle.cms_search.proofs.Reading.{forgets, stays}
+use Rattle.cms_search.proofs.PlaceMaps.{forgets, stays}
 use Rattle.cms_search.proofs.places.Places.forget_disk.Goals as goal
 
 pub returns : goal.returns

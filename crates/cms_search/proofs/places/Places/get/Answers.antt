@@ -1,6 +1,6 @@
 use Rattle.std.proofs.Common.{◌∙◌, ap}
 use Rattle.std.specs.FinMap as finite
-use Rattle.cms_search.proofs.Reading.{answers}
+use Rattle.cms_search.proofs.PlaceMaps.{answers}
 use Rattle.cms_search.proofs.places.Places.get.Goals as goal
 
 pub returns : goal.returns

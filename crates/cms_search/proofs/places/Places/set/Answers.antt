@@ -1,6 +1,6 @@
 use Rattle.std.proofs.Common.{◌∙◌, ap}
 use Rattle.std.specs.FinMap as finite
-use Rattle.cms_search.proofs.Reading.{sets}
+use Rattle.cms_search.proofs.PlaceMaps.{sets}
 use Rattle.cms_search.proofs.places.Places.set.Goals as goal
 
 pub returns-clause-ok : goal.returns-clause-ok

@@ -2,7 +2,7 @@ use Rattle.std.proofs.Common.{◌<◌, ℕ, length, subst, arith}
 use Rattle.std.specs.Prelude.{Result}
 use Rattle.cms_search.specs.Tables.{EndsAccess}
 use Rattle.cms_search.specs.declared.fault.SearchFault.{SearchFault}
-use Rattle.cms_search.proofs.Tabling.{get_some}
+use Rattle.cms_search.proofs.Tables.{get_some}
 use Rattle.cms_search.proofs.table.Table.access.Goals as goal
 
 pub returns-clause-access : goal.returns-clause-access

@@ -1,7 +1,7 @@
 use Rattle.std.proofs.Common.{refl, ◌∙◌, sym, ap}
 use Rattle.cms_world.specs.Seen.{seen}
 use Rattle.cms_disk.specs.Disks.{Accessed}
-use Rattle.cms_search.specs.Drafting.{CommitsTo}
+use Rattle.cms_search.specs.Drafts.{CommitsTo}
 use Rattle.cms_search.specs.Searches.{item_at}
 use Rattle.cms_search.specs.Tables.{Accesses, Seated}
 use Rattle.cms_search.specs.contracts.seated.Seated as seats

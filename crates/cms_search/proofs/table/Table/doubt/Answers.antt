@@ -4,7 +4,7 @@ use Rattle.std.specs.Option.{option_copied}
 use Rattle.std.proofs.lemmas.Grind.{common_steps}
 use Rattle.cms_search.specs.Searches.{item_at}
 use Rattle.cms_search.specs.Tables.{Accesses, IsTable, Seated, marked, released}
-use Rattle.cms_search.proofs.Tabling.{table_doubted, unit_within}
+use Rattle.cms_search.proofs.Tables.{table_doubted, unit_within}
 use Rattle.cms_search.proofs.table.Table.doubt.Goals as goal
 
 pub index_mut-requires-in-Some : goal.index_mut-requires-in-Some

@@ -1,6 +1,6 @@
 use Rattle.std.proofs.Common.{refl}
 use Rattle.cms_disk.specs.Disks.{Accessed}
-use Rattle.cms_search.specs.Drafting.{DraftsTo}
+use Rattle.cms_search.specs.Drafts.{DraftsTo}
 use Rattle.cms_search.specs.Tables.{Seated}
 use Rattle.cms_search.specs.contracts.seated.Seated as seats
 use Rattle.cms_search.specs.contracts.table.Table.{the_view}

@@ -1,5 +1,5 @@
 use Rattle.cms_search.specs.contracts.table.Table.{the_view}
-use Rattle.cms_search.proofs.Tabling.{table_marked}
+use Rattle.cms_search.proofs.Tables.{table_marked}
 use Rattle.cms_search.proofs.table.Table.end_doubt.Goals as goal
 
 pub invariant_of-self : goal.invariant_of-self

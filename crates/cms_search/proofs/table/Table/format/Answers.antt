@@ -2,7 +2,7 @@ use Rattle.std.proofs.Common.{◌≡◌, ◌∙◌, ℕ, slice_get, sym, ap, sub
 use Rattle.std.proofs.lemmas.Option.{same_Some}
 use Rattle.cms_world.specs.Seen.{seen}
 use Rattle.cms_disk.specs.declared.unit.UnitInfo.{UnitInfo}
-use Rattle.cms_search.specs.Formatting.{FormatsUnit}
+use Rattle.cms_search.specs.Format.{FormatsUnit}
 use Rattle.cms_search.proofs.table.Table.format.Goals as goal
 
 pub returns : goal.returns

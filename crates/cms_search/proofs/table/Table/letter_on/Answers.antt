@@ -1,8 +1,8 @@
 use Rattle.std.proofs.Common.{◌∙◌, ℕ, sym, ap}
 use Rattle.std.specs.Prelude.{Option}
 use Rattle.std.specs.Option.{option_and_then}
-use Rattle.cms_search.specs.Releasing.{letter_with}
 use Rattle.cms_search.specs.Tables.{letters_of}
+use Rattle.cms_search.specs.Units.{letter_with}
 use Rattle.cms_search.proofs.Released.{letter_seated}
 use Rattle.cms_search.proofs.table.Table.letter_on.Goals as goal
 

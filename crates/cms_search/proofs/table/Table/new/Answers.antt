@@ -1,6 +1,6 @@
 use Rattle.std.proofs.Common.{◌≡◌, ◌∙◌, ℕ, ap, arith, rules, false, replicate}
 use Rattle.std.specs.Prelude.{None}
-use Rattle.cms_search.proofs.Tabling.{table_made}
+use Rattle.cms_search.proofs.Tables.{table_made}
 use Rattle.cms_search.proofs.table.Table.new.Goals as goal
 
 pub invariant_of-result : goal.invariant_of-result

@@ -2,7 +2,7 @@ use Rattle.std.proofs.Common.{◌≡◌, ◌∙◌, Bool, sym, ap, subst}
 use Rattle.cms_search.specs.Tables.{Accesses, LooksAt}
 use Rattle.cms_disk.specs.declared.unit.UnitInfo.{UnitInfo}
 use Rattle.std.proofs.lemmas.Option.{same_Some}
-use Rattle.cms_search.proofs.Tabling.{told_is, unit_read, unit_same}
+use Rattle.cms_search.proofs.Tables.{told_is, unit_read, unit_same}
 use Rattle.cms_search.proofs.table.Table.open.Goals as goal
 
 pub access-requires : goal.access-requires

@@ -1,5 +1,5 @@
 use Rattle.cms_search.specs.contracts.table.Table.{the_view}
-use Rattle.cms_search.proofs.Tabling.{table_released}
+use Rattle.cms_search.proofs.Tables.{table_released}
 use Rattle.cms_search.proofs.table.Table.release.Goals as goal
 
 pub invariant_of-self : goal.invariant_of-self

@@ -3,7 +3,7 @@ use Rattle.std.specs.Prelude.{Some, None, slice_get}
 use Rattle.std.specs.Option.{option_copied}
 use Rattle.cms_search.specs.Searches.{item_at}
 use Rattle.cms_search.specs.Tables.{Accesses, Seated}
-use Rattle.cms_search.proofs.Tabling.{has_unit}
+use Rattle.cms_search.proofs.Tables.{has_unit}
 use Rattle.cms_search.proofs.table.Table.seat.Goals as goal
 
 pub returns-in_err-unit-clause-none : goal.returns-in_err-unit-clause-none

@@ -4,7 +4,7 @@ use Rattle.std.specs.Prelude.{None, Ok, Some, false, slice_get}
 use Rattle.cms_disk.specs.declared.unit.UnitInfo.{UnitInfo}
 use Rattle.cms_search.specs.Tables.{Accesses, Seated, letter_for, table_after}
 use Rattle.cms_search.specs.contracts.table.Table.{the_view}
-use Rattle.cms_search.proofs.Tabling.{letter_so, seated_so, table_accessed, unit_same}
+use Rattle.cms_search.proofs.Tables.{letter_so, seated_so, table_accessed, unit_same}
 use Rattle.cms_search.proofs.table.Table.seat_on.Goals as goal
 
 pub invariant_of-self : goal.invariant_of-self

@@ -1,7 +1,7 @@
 use Rattle.std.proofs.Common.{refl}
 use Rattle.cms_world.specs.Seen.{seen}
 use Rattle.cms_disk.specs.Disks.{Accessed}
-use Rattle.cms_search.specs.Putting.{UpdatesTo, change_with}
+use Rattle.cms_search.specs.FileWrites.{UpdatesTo, change_with}
 use Rattle.cms_search.specs.Tables.{Seated}
 use Rattle.cms_search.specs.contracts.seated.Seated as seats
 use Rattle.cms_search.specs.contracts.table.Table.{the_view}

@@ -1,5 +1,5 @@
 use Rattle.cms_search.specs.contracts.table.Table.{the_view}
-use Rattle.cms_search.proofs.Tabling.{table_vacated}
+use Rattle.cms_search.proofs.Tables.{table_vacated}
 use Rattle.cms_search.proofs.table.Table.vacate.Goals as goal
 
 pub invariant_of-self : goal.invariant_of-self

@@ -1,8 +1,8 @@
 use Rattle.std.proofs.Common.{◌<◌, ◌∙◌, ◌∷◌, [], length, length-append, sym, arith}
 use Rattle.cms_search.specs.Searches.{is_searched}
 use Rattle.cms_search.specs.Tables.{shelves_of}
-use Rattle.cms_search.proofs.Searching.{all_added, as_before, none_added, one_added}
-use Rattle.cms_search.proofs.Tabling.{shelves_long}
+use Rattle.cms_search.proofs.Searches.{all_added, as_before, none_added, one_added}
+use Rattle.cms_search.proofs.Tables.{shelves_long}
 use Rattle.cms_search.proofs.table.Table.with_searched.Goals.{then-is_searched, else-is_searched}
 use Rattle.cms_search.proofs.table.Table.with_searched.Goals as goal
 

@@ -1,0 +1,34 @@
+use Rattle.std.proofs.Common.{◌≡◌, ◌∙◌, Ok, Err, refl, slice_get, sym}
+use Rattle.cms_search.specs.Calls.{spot}
+use Rattle.cms_search.specs.Searches.{item_at, shelves_in}
+use Rattle.cms_search.specs.Tables.{letters_of, shelf_of, writing}
+use Rattle.cms_search.proofs.Stepped.{written_at}
+use Rattle.cms_files.specs.Files.{writable}
+use Rattle.cms_files.proofs.Found.{acts_found, acts_search_fault}
+use Rattle.cms_files.proofs.TakenFiles.{no_shelf, open_shelf}
+use Rattle.cms_files.proofs.Updates.{found_on_disks}
+use Rattle.cms_cards.specs.FirstDeck.{on_deck, write_dump}
+use Rattle.cms_cards.proofs.first_deck.load_file.Goals as goal
+
+pub returns-in-Ok-clause-acts : goal.returns-in-Ok-clause-acts
+returns-in-Ok-clause-acts g c =
+    let st = c.args.state.now in
+    let n = c.args.mode.now.letter in
+    let old = spot g.W.World c.args.world.now st in
+    let new = spot g.W.World c.load_first.new.world c.load_first.new.state in
+    let may : writing (item_at (letters_of st.table) n) n ≡ Ok tt = sym c.find_write.ensures ∙ c.in-Ok.is in
+    let seat = written_at st.table n may in
+    let shelf = shelf_of seat.0 in
+    acts_found old new c.args.words.now 2 (λ m shelf. on_deck m (write_dump m c.args.mode.now.letter) (slice_get c.args.reader.now 0)) (λ m. writable (shelves_in m) n)
+    shelf c.load_first.result _ (found_on_disks old (λ shelves. writable shelves n) (Ok shelf) (open_shelf st.table n seat.0 seat.1 may)) c.load_first.ensures.acts
+
+pub returns-in-Err-clause-acts : goal.returns-in-Err-clause-acts
+returns-in-Err-clause-acts g c =
+    let st = c.args.state.now in
+    let n = c.args.mode.now.letter in
+    let old = spot g.W.World c.args.world.now st in
+    let new = spot g.W.World c.refuse_unfound.new.world st in
+    acts_search_fault old new c.args.words.now 2 (λ m shelf. on_deck m (write_dump m c.args.mode.now.letter) (slice_get c.args.reader.now 0)) (λ m. writable (shelves_in m) n)
+    c.in-Err.fault c.refuse_unfound.result
+    (λ other. found_on_disks old (λ shelves. writable shelves n) (Err c.in-Err.fault) (no_shelf st.table n c.in-Err.fault (sym c.find_write.ensures ∙ c.in-Err.is)))
+    c.refuse_unfound.ensures refl

@@ -1,8 +1,0 @@
-use Rattle.std.proofs.Common.{map, take}
-use Rattle.cms_names.specs.declared.name.Format.TheVariants.{F}
-use Rattle.cms_files.specs.Gathering.{IsGathered}
-use Rattle.cms_cards.specs.Punching.{card_of}
-use Rattle.cms_cards.proofs.loading.gather.Given as goal
-
-abbrev pub invariant-loop-card : goal.invariant-loop-card
-invariant-loop-card l = IsGathered F 80 (map card_of (take l.card-index l.cards)) l.gathered

@@ -1,0 +1,82 @@
+use Rattle.std.proofs.Common.{rules, ◌≡◌, ◌∙◌, ◌≤◌, ℕ, List, Bool, true, false, Ok, Err, length, refl, sym, subst, arith}
+use Rattle.std.specs.Prelude.{IsTrue}
+use Rattle.std.proofs.lemmas.Result.{err_from_is_err_and}
+use Rattle.cms_fields.specs.Limits.{longest_record}
+use Rattle.cms_journal.specs.Journal.{contents_of}
+use Rattle.cms_model.specs.Trees.{image_of}
+use Rattle.cms_disk.specs.Cursors.{HandsOut, HasLeft}
+use Rattle.cms_copyfile.proofs.Passes.{measured_first, measured_next, never_altered}
+use Rattle.cms_copyfile.proofs.SoundMeasures.{never_ended, read_sound}
+use Rattle.cms_copyfile.proofs.first_pass.measure_copies.Goals as goal
+
+pub loop-place-init : goal.loop-place-init
+loop-place-init g c =
+    let none = c.new-measure.ensures.none in
+    record {
+      to = measured_first (g.W.World.told c.args.world.now) c.args.plan.now c.args.cursor.now c.new-measure.result (c.new-measure.ensures.measured c.args.plan.now.format);
+      file = record { unit = refl; total = refl; bsize = refl; leaves = refl; fixed = refl; longest = refl };
+      left = omega arith;
+      few = omega arith;
+      bytes = omega arith;
+      capacity = omega arith;
+      told = refl;
+      faults = omega arith;
+      edges = refl;
+    }
+
+pub loop-place-preserved : goal.loop-place-preserved
+loop-place-preserved g c =
+    let l = c.loop-place in
+    let first = c.args.cursor.now in
+    let next = c.next.new.self in
+    let n = c.in_ok-next.ensures in
+    let yes : c.in_ok-next.field-0 ≡ true = search rules in
+    let a = l.invariant.file in
+    let b = n.file in
+    let at = a.unit in
+    let m = c.measure_copy.ensures in
+    let sure : IsTrue c.in_ok-next.field-0 = search rules in
+    let fits = n.text sure in
+    record {
+      to = measured_next (g.W.World.told c.args.world.now) c.args.plan.now first l.cursor next l.place l.measure c.measure_copy.new.measure c.text.result.now l.invariant.to
+          (λ j is all has.
+          subst (λ (x : Bool). HandsOut (image_of (contents_of j first.unit)) next all (Ok x)) yes
+          (subst (λ (u : ℕ). HandsOut (image_of (contents_of j u)) next all (Ok c.in_ok-next.field-0)) at
+          (n.records j (l.invariant.told ∙ is) all (subst (λ (u : ℕ). HasLeft (image_of (contents_of j u)) l.cursor all) (sym at) has))))
+          c.text.ensures (subst (λ (t : List ℕ). (1 ≤ length t) × (length t ≤ longest_record)) (sym c.text.ensures) (fits.some, omega (arith, fits.short, a.longest, b.longest, c.requires.short)))
+          m.measured;
+      file = record { unit = b.unit ∙ a.unit; total = b.total ∙ a.total; bsize = b.bsize ∙ a.bsize; leaves = b.leaves ∙ a.leaves; fixed = b.fixed ∙ a.fixed; longest = b.longest ∙ a.longest };
+      left = omega (arith, n.left sure, l.invariant.left);
+      few = m.few;
+      bytes = m.bytes;
+      capacity = omega (arith, l.invariant.capacity, m.capacity);
+      told = n.reads.told ∙ l.invariant.told;
+      faults = omega (arith, n.reads.faults, l.invariant.faults);
+      edges = n.reads.edges ∙ l.invariant.edges;
+    }
+
+pub returns-in_err-next-clause-never : goal.returns-in_err-next-clause-never
+returns-in_err-next-clause-never g c =
+    let p = err_from_is_err_and c.from_residual.result c.from_residual.ensures.1 in
+    let l = c.loop-place in
+    let first = c.args.cursor.now in
+    let next = c.next.new.self in
+    let at = l.invariant.file.unit in
+    rw (p.1, p.2)
+    (never_altered (g.W.World.told c.args.world.now) c.args.plan.now first l.cursor next l.place l.measure c.in_err-next.field-0.0 l.invariant.to
+    (λ j is all has.
+    subst (λ (u : ℕ). HandsOut (image_of (contents_of j u)) next all (Err c.in_err-next.field-0.0)) at
+    (c.in_err-next.ensures.records j (l.invariant.told ∙ is) all (subst (λ (u : ℕ). HasLeft (image_of (contents_of j u)) l.cursor all) (sym at) has))))
+
+-- a record is there for each that is wanted
+pub returns-then-not-branch-clause-sound : goal.returns-then-not-branch-clause-sound
+returns-then-not-branch-clause-sound g c = λ form p.
+    let l = c.loop-place in
+    let off : c.in_ok-next.field-0 ≡ false = search rules in
+    absurd (never_ended form c.args.plan.now c.args.cursor.now.left l.cursor.left l.place c.in_ok-next.field-0 p l.invariant.left (omega arith) c.in_ok-next.ensures.some off)
+
+pub returns-clause-sound : goal.returns-clause-sound
+returns-clause-sound g c = λ form p.
+    let l = c.loop-place in
+    let is : l.place ≡ c.args.plan.now.wanted = omega arith in
+    read_sound (g.W.World.told c.args.world.now) c.args.plan.now c.args.cursor.now l.cursor l.place l.measure form c.args.cursor.now.left l.invariant.to is p

@@ -1,5 +1,0 @@
-use Rattle.cms_files.proofs.Found.{part_is_short}
-use Rattle.cms_exec.proofs.refusing.not_run.Goals as goal
-
-pub of-requires : goal.of-requires
-of-requires c = let is = c.as_bytes.ensures.value in rw is (part_is_short _ c.as_bytes.ensures.part)

@@ -1,0 +1,62 @@
+// Procedures that are found by their names.
+ghost use Rattle.std.specs.Prelude.{◌≡◌};
+ghost use Rattle.cms_search.specs.Machine.{Machine};
+ghost use Rattle.cms_search.specs.Shows.{Shows};
+ghost use Rattle.cms_search.specs.Tables.{shelves_of};
+ghost use Rattle.cms_exec.specs.Searches as spec;
+
+use cms_files::{exec_kind, info_found};
+use cms_line::Token;
+use cms_names::{Name, Part};
+use cms_operands::{ReadMode, given};
+use cms_search::{Found, Table};
+use exec2_run::FileName;
+
+// A file that was found, with its letter and its mode number.
+fn file_found(table: &Table, name: Name, found: Found) -> Option<FileName>
+    ensures { result ≡ spec.file_found (shelves_of table.now) name found }
+{
+    let info = info_found(table, found)?;
+    Some(FileName {
+        name,
+        letter: found.letter,
+        number: info.number,
+    })
+}
+
+/// The procedure of a name, the first that is found over all disks; none exactly where none is found.
+pub fn find_procedure(table: &Table, file: Part) -> Option<FileName>
+    ensures { (s : Machine) → Shows table.now s → result ≡ spec.procedure_named s file }
+{
+    let name = Name {
+        file,
+        kind: exec_kind(),
+    };
+    match table.find_read(&name, &ReadMode::Any) {
+        Ok(found) => file_found(table, name, found),
+        Err(_) => None,
+    }
+}
+
+// The first word, where it is a valid file name.
+fn first_name(words: &[Token]) -> Option<Part>
+    ensures { result ≡ spec.first_name words.now }
+{
+    match given(words, 0) {
+        Some(text) => match Part::read(text) {
+            Ok(file) => Some(file),
+            Err(_) => None,
+        },
+        None => None,
+    }
+}
+
+/// The procedure that a line's first word names; none exactly where that is no valid file name, or no such procedure is found.
+pub fn find_called(table: &Table, words: &[Token]) -> Option<FileName>
+    ensures { (s : Machine) → Shows table.now s → result ≡ spec.called_by s words.now }
+{
+    match first_name(words) {
+        Some(file) => find_procedure(table, file),
+        None => None,
+    }
+}

@@ -1,5 +1,0 @@
-use Rattle.cms_search.proofs.Talking.{silent}
-use Rattle.cms_search.proofs.asking.complain.Goals as goal
-
-pub returns-in-Rest : goal.returns-in-Rest
-returns-in-Rest g c = let is = c.in-Rest.is in rw is (silent _ tt)

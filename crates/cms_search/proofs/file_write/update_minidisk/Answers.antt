@@ -1,0 +1,14 @@
+use Rattle.cms_disk.proofs.Adding.{appends_of}
+use Rattle.cms_search.proofs.file_write.update_minidisk.Goals as goal
+
+pub returns-in-Put : goal.returns-in-Put
+returns-in-Put g c = let is = c.in-Put.is in rw is (λ records stands. record {
+  appends = λ j m told is'. appends_of _ _ _ _ _ _ _ _ (c.put.ensures.alters j m records told is' stands);
+  changes = c.put.ensures.changes;
+})
+
+pub returns-in-Append : goal.returns-in-Append
+returns-in-Append g c = let is = c.in-Append.is in rw is (λ records stands. record {
+  appends = λ j m told is'. c.append.ensures.appends j m records told is' stands;
+  changes = c.append.ensures.changes;
+})
