@@ -2,7 +2,7 @@
 """Measures the program beside tools that do the like, and prints the ratios. No part of the gate.
 
     bench/bench.py              all of them
-    bench/bench.py NAME ..      some: opening, files, copy, append, execio, procedure
+    bench/bench.py NAME ..      some: opening, files, copy, type, lines, append, execio, procedure
 
 opening    a volume of 10,000 files in 262,144 blocks of 4,096 bytes, beside `dd` that reads the blocks that describe it
 files      10,000 files of a volume listed with all columns, beside `ls -l` of as many; and one of them erased, beside as many blocks that
@@ -10,7 +10,10 @@ files      10,000 files of a volume listed with all columns, beside `ls -l` of a
            volumes of 20,000 and of 200,000 blocks of 512 bytes that are in order: the blocks that are written, and the time. And one of
            10,000 files erased that sessions wrote one by one, and one where the blocks of the volume are scattered, which writes what
            tests/updates.py foretells
-copy       a file of F 80 records of 64 MiB, and one of 1 MiB, by COPYFILE, beside `cp` and `sync` of a file of that size
+copy       a file of F 80 records of 64 MiB, and one of 1 MiB, by COPYFILE, beside `cp` and `sync` of a file of that size, each the fastest
+           of three runs: of 64 MiB at most twice their time
+type       a file of F 80 records of 64 MiB that TYPE writes into a file of the host, beside `dd conv=ascii,unblock`: at most half its time
+lines      a session of 10,000 lines STATE, beside `sh` with as many lines that ask for a file and say so: at most its time
 append     a record added to a file of 64 MiB and to one of 1 MiB, with blocks of 4,096 and of 512 bytes: the blocks that are written, and
            those that are read beside an opening, at most one of each level of the file's pointer blocks and one more
 execio     2,000 lines of one record each, `EXECIO 1 DISKW`, beside as many transactions of one row in SQLite with synchronous=FULL; and
@@ -235,6 +238,28 @@ def with_records(count):
     return lines
 
 
+# How many times the time of `cp` and `sync` COPYFILE of 64 MiB may take.
+MOST_BESIDE_CP = 2
+
+
+def copied(unit):
+    """BIG FILE A copied by COPYFILE; the copy goes again, in a session of its own."""
+    taken = session(unit, ["COPYFILE BIG FILE A OUT FILE A"])
+    session(unit, ["ERASE OUT FILE A"])
+    os.sync()
+    return taken
+
+
+def copied_by_cp():
+    """The seconds in which `cp` copies the file `plain` and `sync` writes the copy."""
+    begun = time.monotonic()
+    subprocess.run(["cp", "plain", "plain2"], check=True)
+    subprocess.run(["sync", "plain2"], check=True)
+    taken = time.monotonic() - begun
+    os.unlink("plain2")
+    return taken
+
+
 def copy():
     times = {}
     for size in (1, 64):
@@ -244,17 +269,61 @@ def copy():
         session(f"191,4096,n{blocks},{image}", with_records(count))
         pathlib.Path("plain").write_bytes(b"X" * (count * RECORD))
         os.sync()
-        times[size] = session(f"191,4096,rw,{image}", ["COPYFILE BIG FILE A OUT FILE A"])
+        times[size] = min(copied(f"191,4096,rw,{image}") for _ in range(3))
         said(f"COPYFILE of {size} MiB of F {RECORD} records", *times[size])
-        begun = time.monotonic()
-        subprocess.run(["cp", "plain", "plain2"], check=True)
-        subprocess.run(["sync", "plain2"], check=True)
-        plain = time.monotonic() - begun
+        plain = min(copied_by_cp() for _ in range(3))
         said(f"cp and sync of {size} MiB", plain)
         beside(times[size][0], plain)
-        for name in (image, "plain", "plain2"):
+        if size == 64:
+            at_most("COPYFILE of 64 MiB, times cp and sync", round(times[size][0] / plain, 2), MOST_BESIDE_CP)
+        for name in (image, "plain"):
             os.unlink(name)
     print(f"  peak memory of 64 MiB beside that of 1 MiB: {times[64][1] / times[1][1]:.2f}")
+
+
+def into_file(words, script=""):
+    """The seconds of the fastest of three runs of a command whose output goes into the file `out`, and the bytes of it."""
+    times = []
+    for _ in range(3):
+        with open("out", "wb") as out:
+            begun = time.monotonic()
+            subprocess.run(words, input=script.encode(), stdout=out, check=True)
+            times.append(time.monotonic() - begun)
+    return min(times), os.path.getsize("out")
+
+
+# What part of the time of `dd` TYPE may take.
+MOST_BESIDE_DD = 0.5
+
+
+def type_into_file():
+    count = 64 * MEBIBYTE // RECORD
+    session(f"191,4096,n{2 * 64 * MEBIBYTE // 4096 + 4_000},type.img", with_records(count))
+    pathlib.Path("plain").write_bytes(bytes([0xE7]) * (count * RECORD))
+    typed, size = into_file([PROGRAM, "191,4096,ro,type.img"], "TYPE BIG FILE A\n")
+    said("TYPE of 64 MiB of F 80 records into a file", typed)
+    words = ["dd", "if=plain", "conv=ascii,unblock", f"cbs={RECORD}", "bs=4096", "status=none"]
+    plain, of_dd = into_file(words)
+    said("dd conv=ascii,unblock of 64 MiB", plain)
+    if size < of_dd:
+        sys.exit(f"bench: TYPE wrote {size:,} bytes, fewer than the {of_dd:,} of dd")
+    beside(typed, plain)
+    at_most("TYPE into a file, times dd", round(typed / plain, 2), MOST_BESIDE_DD)
+    for name in ("type.img", "plain", "out"):
+        os.unlink(name)
+
+
+def lines():
+    session("191,512,n2000,lines.img", ["FORMAT 191 A", "YES", "BENCH", "EXECIO 1 DISKW LOG FILE A (STRING x"])
+    pathlib.Path("log").write_text("x\n")
+    taken, _ = into_file([PROGRAM, "191,512,rw,lines.img"], "STATE LOG FILE A\n" * 10_000)
+    said("10,000 lines STATE LOG FILE A", taken)
+    plain, _ = into_file(["sh"], "[ -f log ] && echo 'R;'\n" * 10_000)
+    said("10,000 lines of sh, [ -f log ] && echo 'R;'", plain)
+    beside(taken, plain)
+    at_most("10,000 lines STATE, times sh", round(taken / plain, 2), 1)
+    for name in ("lines.img", "log", "out"):
+        os.unlink(name)
 
 
 # The most blocks that the addition of a record to a file of 64 MiB writes, by the size of a block.
@@ -384,7 +453,16 @@ def procedure():
             at_most(f"{what}, times the loop in REXX", round(seconds / plain, 2), MOST_BESIDE_REXX)
 
 
-BENCHES = {"opening": opening, "files": files, "copy": copy, "append": append, "execio": execio, "procedure": procedure}
+BENCHES = {
+    "opening": opening,
+    "files": files,
+    "copy": copy,
+    "type": type_into_file,
+    "lines": lines,
+    "append": append,
+    "execio": execio,
+    "procedure": procedure,
+}
 
 
 def main():
