@@ -1,9 +1,8 @@
 // What a world of files asks of its system, in one log; and units that are real files.
 use super::FileWorld;
-use crate::host::Host;
-use crate::host::tests::path;
+use crate::host::tests::{host, keep_files, path, push_failures, push_opened};
 use crate::logged::Logged;
-use crate::system::{Deed, Lock};
+use crate::system::{Deed, Lock, System};
 use cms_world::{Access, World};
 use std::alloc::AllocError;
 use std::test::Fail;
@@ -115,35 +114,33 @@ fn what_is_asked_of_the_system_comes_in_order(rt: HostRuntime) -> Result<(), Fai
     Ok(())
 }
 
-type Files<'a> = FileWorld<Host<&'a HostRuntime>>;
-
-fn world(rt: &HostRuntime) -> io::Result<Files<'_>> {
-    Ok(FileWorld::new(rt.alloc(), Host::new(rt.alloc(), rt), false)?)
-}
-
 // What comes of attaching images, each with a semicolon behind it: the unit's number and its blocks, or a hyphen.
-fn attached(
-    rt: &HostRuntime,
-    world: &mut Files<'_>,
+fn push_attached<S: System + Drop>(
+    told: &mut String,
+    world: &mut FileWorld<S>,
     rows: &[(&str, Access)],
-) -> io::Result<String> {
-    let mut told = String::new(rt.alloc());
+) -> Result<(), AllocError> {
     for (name, access) in rows {
         match world.attach(name, 512, *access) {
-            Ok(unit) => {
-                told.push_str(&format!(in rt.alloc(); "{} {};", unit.number, unit.blocks)?)?;
-            }
+            Ok(unit) => write!(told, "{} {};", unit.number, unit.blocks)?,
             Err(_) => told.push_str("-;")?,
         }
     }
-    Ok(told)
+    Ok(())
 }
 
-// The same of a torn image, of a new one, of a folder, and of images that are in use, in two worlds at once.
-fn attachings<'a>(rt: &'a HostRuntime, torn: &'a str, new: &'a str) -> io::Result<String> {
-    fs::write(rt, torn, &[7; 2000])?;
-    let mut first = world(rt)?;
-    let mut second = world(rt)?;
+fn world<S: System + Drop>(rt: &HostRuntime, system: S) -> Result<FileWorld<S>, AllocError> {
+    FileWorld::new(rt.alloc(), system, false)
+}
+
+// What comes of attaching a torn image, a new one, a folder, and images that are in use, in a first world that ends, and in a second.
+fn push_two_worlds<'a, S: System + Drop>(
+    told: &mut String,
+    (torn, new): (&'a str, &'a str),
+    first: FileWorld<S>,
+    second: &mut FileWorld<S>,
+) -> Result<(), AllocError> {
+    let mut first = first;
     let rows = [
         (torn, Access::ReadOnly),
         (torn, Access::ReadOnly),
@@ -154,42 +151,61 @@ fn attachings<'a>(rt: &'a HostRuntime, torn: &'a str, new: &'a str) -> io::Resul
         (new, Access::New(8)),
         (new, Access::ReadOnly),
     ];
-    let one = attached(rt, &mut first, &rows)?;
+    push_attached(told, &mut first, &rows)?;
+    told.push(' ')?;
     let rows = [
         (torn, Access::ReadOnly),
         (torn, Access::ReadWrite),
         (new, Access::ReadWrite),
         (new, Access::ReadOnly),
     ];
-    let other = attached(rt, &mut second, &rows)?;
-    drop(first);
-    let later = attached(rt, &mut second, &[(new, Access::ReadWrite)])?;
+    push_attached(told, second, &rows)
+}
+
+// Adds what comes of attaching images in two worlds at once, and in the second once the first has ended.
+fn push_attachings<'a, S: System + Drop>(
+    told: &mut String,
+    rt: &HostRuntime,
+    (torn, new): (&'a str, &'a str),
+    (first, second): (S, S),
+) -> io::Result<()> {
+    fs::write(rt, torn, &[7; 2000])?;
+    let first = world(rt, first)?;
+    let mut second = world(rt, second)?;
+    push_two_worlds(told, (torn, new), first, &mut second)?;
+    told.push(' ')?;
+    push_attached(told, &mut second, &[(new, Access::ReadWrite)])?;
+    told.push('\n')?;
     fs::remove_file(rt, torn)?;
-    fs::remove_file(rt, new)?;
-    Ok(format!(in rt.alloc(); "{one} {other} {later}")?)
+    fs::remove_file(rt, new)
 }
 
-#[test]
-fn images_are_attached_and_locked(rt: HostRuntime) -> Result<(), Fail> {
-    let torn = path(&rt, "torn")?;
-    let new = path(&rt, "new")?;
-    assert_eq!(rt;
-        attachings(&rt, &torn, &new)?.as_str(),
-        "0 3;1 3;-;-;-;2 8;-;-; 0 3;-;-;-; 1 8;"
-    );
-    Ok(())
-}
-
-// The letter that fills a block.
-fn letter(world: &mut Files<'_>, unit: u8, block: u32) -> Option<u8> {
+// Adds the letter that fills a block, as a digit.
+fn push_letter<S: System + Drop>(
+    told: &mut String,
+    world: &mut FileWorld<S>,
+    unit: u8,
+    block: u32,
+) -> Result<(), AllocError> {
     let mut bytes = [0; 512];
-    world.read_block(unit, block, &mut bytes).ok()?;
+    let is_read = world.read_block(unit, block, &mut bytes).is_ok();
     let first = bytes[0];
-    bytes.iter().all(|byte| *byte == first).then_some(first)
+    let is_filled = bytes.iter().all(|byte| *byte == first);
+    told.push(if is_read && is_filled {
+        char::from(b'0'.saturating_add(first))
+    } else {
+        '-'
+    })
 }
 
-fn fill(world: &mut Files<'_>, unit: u8, block: u32, letter: u8) -> bool {
-    world.write_block(unit, block, &[letter; 512]).is_ok()
+// Fills a block with a letter.
+fn push_fill<S: System + Drop>(
+    told: &mut String,
+    world: &mut FileWorld<S>,
+    (unit, block, letter): (u8, u32, u8),
+) -> Result<(), AllocError> {
+    let went = world.write_block(unit, block, &[letter; 512]).is_ok();
+    told.push(if went { 'w' } else { '-' })
 }
 
 // Units and blocks that are filled with a letter.
@@ -214,45 +230,88 @@ const READS: [(u8, u32); 8] = [
     (2, 1),
 ];
 
-// What comes of these calls on a new image and one that is read alone; and how many failed.
-fn written_and_read<'a>(rt: &'a HostRuntime, name: &'a str, other: &'a str) -> io::Result<String> {
-    fs::write(rt, other, &[7; 2000])?;
-    let mut world = world(rt)?;
-    let rows = [(name, Access::New(8)), (other, Access::ReadOnly)];
-    let mut told = attached(rt, &mut world, &rows)?;
-    for (unit, block, letter) in WRITES {
-        told.push(if fill(&mut world, unit, block, letter) {
-            'w'
-        } else {
-            '-'
-        })?;
+// What comes of these calls, and how many failed.
+fn push_calls<S: System + Drop>(
+    told: &mut String,
+    world: &mut FileWorld<S>,
+) -> Result<(), AllocError> {
+    for write in WRITES {
+        push_fill(told, world, write)?;
     }
     told.push(if world.sync(0).is_ok() { ';' } else { '-' })?;
     for (unit, block) in READS {
-        told.push(match letter(&mut world, unit, block) {
-            Some(letter) => char::from(b'0'.saturating_add(letter)),
-            None => '-',
-        })?;
+        push_letter(told, world, unit, block)?;
     }
-    fs::remove_file(rt, name)?;
-    fs::remove_file(rt, other)?;
-    Ok(format!(in rt.alloc(); "{told};{},{}", world.faults, world.edges)?)
+    write!(told, ";{},{}", world.faults, world.edges)
 }
 
-#[test]
-fn blocks_are_written_and_read(rt: HostRuntime) -> Result<(), Fail> {
-    let name = path(&rt, "blocks")?;
-    let other = path(&rt, "other")?;
-    assert_eq!(rt;
-        written_and_read(&rt, &name, &other)?.as_str(),
-        "0 8;1 3;ww----;09057---;7,0"
-    );
+// Adds what comes of these calls on a new image and one that is read alone.
+fn push_calls_on_files<'a, S: System + Drop>(
+    told: &mut String,
+    rt: &HostRuntime,
+    (name, other): (&'a str, &'a str),
+    system: S,
+) -> io::Result<()> {
+    fs::write(rt, other, &[7; 2000])?;
+    let mut world = world(rt, system)?;
+    let rows = [(name, Access::New(8)), (other, Access::ReadOnly)];
+    push_attached(told, &mut world, &rows)?;
+    push_calls(told, &mut world)?;
+    told.push('\n')?;
+    fs::remove_file(rt, name)?;
+    fs::remove_file(rt, other)
+}
+
+// Adds whether the clock of a world stands behind the year 2023.
+fn push_time<S: System + Drop>(
+    told: &mut String,
+    rt: &HostRuntime,
+    system: S,
+) -> Result<(), AllocError> {
+    let time = world(rt, system)?.now();
+    writeln!(
+        told,
+        "{}",
+        time.is_ok_and(|seconds| seconds > 1_700_000_000)
+    )
+}
+
+// What comes of images in two worlds, of blocks in one, of the clock, of calls that fail, and of what is no image; each in a line.
+const FILES: &str = "\
+0 3;1 3;-;-;-;2 8;-;-; 0 3;-;-;-; 1 8;
+0 8;1 3;ww----;09057---;7,0
+true
+[true, false, false, true, true, false, true, true, false, true, false]
+[false, false, false, false]
+";
+
+// Two names, of files that aren't there before and behind each of these.
+fn push_files<'a>(
+    told: &mut String,
+    rt: &HostRuntime,
+    old: &'a str,
+    new: &'a str,
+) -> io::Result<()> {
+    push_attachings(told, rt, (old, new), (host(rt), host(rt)))?;
+    push_calls_on_files(told, rt, (new, old), host(rt))?;
+    push_time(told, rt, host(rt))?;
+    let mut kept = host(rt);
+    keep_files(rt, &mut kept, old)?;
+    push_failures(told, &mut kept, old)?;
+    fs::remove_file(rt, old)?;
+    push_opened(told, &mut kept, new)?;
     Ok(())
 }
 
 #[test]
-fn the_clock_is_the_systems(rt: HostRuntime) -> Result<(), Fail> {
-    let mut world = world(&rt)?;
-    assert!(rt; world.now().is_ok_and(|seconds| seconds > 1_700_000_000));
+fn real_files_do_what_is_asked(rt: HostRuntime) -> Result<(), Fail> {
+    let old = path(&rt, "old")?;
+    let new = path(&rt, "new")?;
+    let mut told = String::new(rt.alloc());
+    push_files(&mut told, &rt, &old, &new)?;
+    assert_eq!(rt;
+        (told.as_str(), fs::metadata(&rt, &new).is_err()),
+        (FILES, true)
+    );
     Ok(())
 }

@@ -2,9 +2,10 @@
 use super::{Host, folder_of, read_some, seconds, write_some};
 use crate::system::System;
 use cms_world::Access;
+use std::alloc::AllocError;
 use std::cell::Cell;
 use std::fmt::Display;
-use std::fs::{File, OpenFile, OpenOptions};
+use std::fs::{File, Files, OpenFile, OpenOptions};
 use std::io::{ErrorKind, Read};
 use std::test::Fail;
 use std::time::{Clock, Duration};
@@ -17,7 +18,8 @@ pub(crate) fn path(rt: &HostRuntime, name: &str) -> Result<String, Fail> {
     Ok(format!(in rt.alloc(); "{}/cms-{id}-{name}", folder.as_str())?)
 }
 
-fn host(rt: &HostRuntime) -> Host<&HostRuntime> {
+/// The system itself.
+pub(crate) fn host(rt: &HostRuntime) -> Host<&HostRuntime> {
     Host::new(rt.alloc(), rt)
 }
 
@@ -25,68 +27,56 @@ fn opened(rt: &HostRuntime, name: &str, writes: bool) -> io::Result<File> {
     OpenOptions::new().read(true).write(writes).open(rt, name)
 }
 
-// Whether a file that is open to be read alone is read and written, and whether what can't be synced is; and whether each block of an
-// image is read once its file is cut off in the second.
-fn failures(rt: &HostRuntime, name: &str) -> io::Result<String> {
+/// Has a host keep three files: one that is open to be read alone, a device that can't be synced, and the first again to be written.
+pub(crate) fn keep_files<R: Files<File = File> + io::Input + Print + Eprint + Clock + Drop>(
+    rt: &HostRuntime,
+    host: &mut Host<R>,
+    name: &str,
+) -> io::Result<()> {
     fs::write(rt, name, &[7; 1024])?;
-    let mut host = host(rt);
+    host.keep(opened(rt, name, false)?, name)?;
+    host.keep(opened(rt, "/dev/null", true)?, name)?;
+    host.keep(opened(rt, name, true)?, name)?;
+    Ok(())
+}
+
+/// Adds whether the file that is open to be read alone is read and written, and the device synced; whether each block of the image is read
+/// once its file is cut off in the second, and written; and whether files and folders that aren't there are synced.
+pub(crate) fn push_failures<S: System>(
+    told: &mut String,
+    host: &mut S,
+    name: &str,
+) -> Result<(), AllocError> {
     let mut block = [0; 512];
-    let read_only = host.keep(opened(rt, name, false)?, name)?;
-    let device = host.keep(opened(rt, "/dev/null", true)?, name)?;
-    let cut = host.keep(opened(rt, name, true)?, name)?;
     let said = [
-        host.read_at(read_only, &mut block, 512),
-        host.write_at(read_only, &block, 0),
-        host.sync(device),
-        host.set_size(cut, 600).is_ok(),
-        host.read_at(cut, &mut block, 0),
-        host.read_at(cut, &mut block, 512),
-        host.write_at(cut, &block, 512),
-        host.sync(cut),
+        host.read_at(0, &mut block, 512),
+        host.write_at(0, &block, 0),
+        host.sync(1),
+        host.set_size(2, 600).is_ok(),
+        host.read_at(2, &mut block, 0),
+        host.read_at(2, &mut block, 512),
+        host.write_at(2, &block, 512),
+        host.sync(2),
         host.sync(9),
         host.sync_folder(name).is_ok(),
         host.sync_folder("/dev/null/x").is_ok(),
     ];
-    fs::remove_file(rt, name)?;
-    Ok(format!(in rt.alloc(); "{said:?}")?)
+    writeln!(told, "{said:?}")
 }
 
-#[test]
-fn failures_of_files_are_told(rt: HostRuntime) -> Result<(), Fail> {
-    let name = path(&rt, "fails")?;
-    assert_eq!(rt;
-        failures(&rt, &name)?.as_str(),
-        "[true, false, false, true, true, false, true, true, false, true, false]"
-    );
-    Ok(())
-}
-
-#[test]
-fn what_is_no_image_is_refused(rt: HostRuntime) -> Result<(), Fail> {
-    let name = path(&rt, "missing")?;
-    let mut host = host(&rt);
-    let refused = [
-        host.open(&name, Access::ReadWrite).is_err(),
-        host.open(&name, Access::ReadOnly).is_err(),
-        fs::metadata(&rt, &name).is_err(),
-        host.open("/dev/null", Access::ReadOnly).is_err(),
-        host.open("/", Access::ReadOnly).is_err(),
+/// Adds whether a name that isn't there, a device and a folder are opened.
+pub(crate) fn push_opened<S: System>(
+    told: &mut String,
+    host: &mut S,
+    missing: &str,
+) -> Result<(), AllocError> {
+    let said = [
+        host.open(missing, Access::ReadWrite).is_ok(),
+        host.open(missing, Access::ReadOnly).is_ok(),
+        host.open("/dev/null", Access::ReadOnly).is_ok(),
+        host.open("/", Access::ReadOnly).is_ok(),
     ];
-    assert_eq!(rt; refused, [true; 5]);
-    Ok(())
-}
-
-#[test]
-fn the_folder_of_a_name_holds_it(rt: HostRuntime) -> Result<(), Fail> {
-    assert_eq!(rt;
-        (
-            folder_of("w.img"),
-            folder_of("a/w.img"),
-            folder_of("/w.img")
-        ),
-        (".", "a", "/")
-    );
-    Ok(())
+    writeln!(told, "{said:?}")
 }
 
 // A printer that takes three bytes at a call, is interrupted at every second one, and fails where it has no room.
@@ -157,18 +147,27 @@ impl Read for Breaks {
     }
 }
 
-fn clocks_and_streams(rt: &HostRuntime) -> io::Result<String> {
+fn push_clocks(told: &mut String) -> Result<(), AllocError> {
     let clocks = [
         seconds(&Still(Ok(946_684_800))),
         seconds(&Still(Err(ErrorKind::InvalidData))),
         seconds(&Still(Err(ErrorKind::Unsupported))),
     ];
+    writeln!(told, "{clocks:?}")
+}
+
+fn push_reads(told: &mut String) -> Result<(), AllocError> {
     let mut reader = Breaks(0);
     let mut bytes = [b'-'; 5];
     let reads = [
         read_some(&mut reader, &mut bytes),
         read_some(&mut reader, &mut bytes),
     ];
+    let text = str::from_utf8(&bytes).unwrap_or("");
+    writeln!(told, "{reads:?} {text}")
+}
+
+fn push_writes(told: &mut String) -> Result<(), AllocError> {
     let printer = Narrow {
         room: Cell::new(4),
         calls: Cell::new(0),
@@ -178,15 +177,38 @@ fn clocks_and_streams(rt: &HostRuntime) -> io::Result<String> {
         write_some(&printer, b"DE"),
         write_some(&printer, b"E"),
     ];
-    let text = str::from_utf8(&bytes).unwrap_or("");
-    Ok(format!(in rt.alloc(); "{clocks:?} {reads:?} {text} {writes:?}")?)
+    writeln!(told, "{writes:?}")
+}
+
+// The folders that hold names.
+fn push_folders(told: &mut String) -> Result<(), AllocError> {
+    for name in ["w.img", "a/w.img", "/w.img"] {
+        writeln!(told, "{}", folder_of(name))?;
+    }
+    Ok(())
+}
+
+// What comes of clocks and streams that fail, and the folders.
+const TOLD: &str = "\
+[Some(946684800), Some(0), None]
+[Some(3), None] XXX--
+[Some(3), Some(1), None]
+.
+a
+/
+";
+
+fn push_all(told: &mut String) -> Result<(), AllocError> {
+    push_clocks(told)?;
+    push_reads(told)?;
+    push_writes(told)?;
+    push_folders(told)
 }
 
 #[test]
 fn clocks_and_streams_that_fail(rt: HostRuntime) -> Result<(), Fail> {
-    assert_eq!(rt;
-        clocks_and_streams(&rt)?.as_str(),
-        "[Some(946684800), Some(0), None] [Some(3), None] XXX-- [Some(3), Some(1), None]"
-    );
+    let mut told = String::new(rt.alloc());
+    push_all(&mut told)?;
+    assert_eq!(rt; told.as_str(), TOLD);
     Ok(())
 }

@@ -1,6 +1,7 @@
 // Output that is gathered, over a system of the tests.
 use super::Gathered;
 use crate::logged::Logged;
+use crate::system::System;
 use std::alloc::{AllocError, Global};
 use std::test::Fail;
 
@@ -37,7 +38,7 @@ const LINES: &[Step] = &[
     (Some(0), "R;\n", 1, None, "R;\n"),
 ];
 
-fn step(system: &mut Logged, output: &mut Gathered, text: &[u8]) -> Option<usize> {
+fn step<S: System>(system: &mut S, output: &mut Gathered, text: &[u8]) -> Option<usize> {
     if text.is_empty() {
         return output.flush(system).then_some(0);
     }
@@ -63,14 +64,8 @@ fn other_step(alloc: Global, lines: bool, steps: &[Step]) -> Result<String, Allo
 
 #[test]
 fn what_is_typed_is_printed_once_and_in_order(rt: HostRuntime) -> Result<(), Fail> {
-    assert_eq!(rt; other_step(rt.alloc(), false, GATHERED)?.as_str(), "");
-    Ok(())
-}
-
-#[test]
-fn lines_and_long_texts_are_printed_at_once(rt: HostRuntime) -> Result<(), Fail> {
-    let lines = other_step(rt.alloc(), true, LINES)?;
-    let long = other_step(rt.alloc(), false, LONG)?;
-    assert_eq!(rt; (lines.as_str(), long.as_str()), ("", ""));
+    for (lines, steps) in [(false, GATHERED), (false, LONG), (true, LINES)] {
+        assert_eq!(rt; other_step(rt.alloc(), lines, steps)?.as_str(), "");
+    }
     Ok(())
 }
