@@ -1,5 +1,5 @@
 // Lists of words with what they ask for.
-use cms_cases::{push_ascii, told};
+use cms_cases::push_ascii;
 use cms_journal::BlockSize;
 use cms_names::Name;
 use cms_text::Series;
@@ -96,168 +96,180 @@ fn argv(alloc: Global, case: &str) -> Result<Argv, AllocError> {
     Ok(words)
 }
 
-// A command with its image.
-fn command(
-    alloc: Global,
+// Adds a command with its image.
+fn push_command(
+    into: &mut String,
     name: &str,
     image: &str,
     size: Option<BlockSize>,
-) -> Result<String, AllocError> {
+) -> Result<(), AllocError> {
     match size {
-        Some(size) => format!(in alloc; "{name}({image},{})", size.bytes()),
-        None => format!(in alloc; "{name}({image})"),
+        Some(size) => write!(into, "{name}({image},{})", size.bytes()),
+        None => write!(into, "{name}({image})"),
     }
 }
 
-fn on(alloc: Global, name: &str, image: &Image) -> Result<String, AllocError> {
-    command(alloc, name, image.name.text(), image.size)
+fn push_on(into: &mut String, name: &str, image: &Image) -> Result<(), AllocError> {
+    push_command(into, name, image.name.text(), image.size)
 }
 
-fn push_name(text: &mut String, name: &Name) -> Result<(), AllocError> {
-    text.push(' ')?;
-    push_ascii(text, name.file.as_bytes())?;
-    text.push('.')?;
-    push_ascii(text, name.kind.as_bytes())
+fn push_name(into: &mut String, name: &Name) -> Result<(), AllocError> {
+    into.push(' ')?;
+    push_ascii(into, name.file.as_bytes())?;
+    into.push('.')?;
+    push_ascii(into, name.kind.as_bytes())
 }
 
-fn push_patterns(text: &mut String, names: &Series<NamePattern>) -> Result<(), AllocError> {
+fn push_patterns(into: &mut String, names: &Series<NamePattern>) -> Result<(), AllocError> {
     for name in names.as_slice() {
-        text.push(' ')?;
-        text.push_str(name.word.text())?;
+        into.push(' ')?;
+        into.push_str(name.word.text())?;
     }
     Ok(())
 }
 
-fn push_files(text: &mut String, files: &Series<ImageName>) -> Result<(), AllocError> {
+fn push_files(into: &mut String, files: &Series<ImageName>) -> Result<(), AllocError> {
     for file in files.as_slice() {
-        text.push(' ')?;
-        text.push_str(file.text())?;
+        into.push(' ')?;
+        into.push_str(file.text())?;
     }
     Ok(())
 }
 
-fn get(alloc: Global, get: &Get) -> Result<String, AllocError> {
-    let mut text = on(alloc, "get", &get.image)?;
-    let target = match &get.target {
-        Target::Output => String::from_str(alloc, "output")?,
-        Target::File(file) => command(alloc, "file", file.text(), None)?,
-        Target::Folder(folder) => command(alloc, "folder", folder.text(), None)?,
-    };
-    let how = format!(in alloc;
+fn push_target(into: &mut String, target: &Target) -> Result<(), AllocError> {
+    match target {
+        Target::Output => into.push_str("output"),
+        Target::File(file) => push_command(into, "file", file.text(), None),
+        Target::Folder(folder) => push_command(into, "folder", folder.text(), None),
+    }
+}
+
+fn push_get(into: &mut String, get: &Get) -> Result<(), AllocError> {
+    push_on(into, "get", &get.image)?;
+    write!(
+        into,
         " {:?} replaces={} says={} ",
         get.form, get.replaces, get.says
     )?;
-    text.push_str(how.as_str())?;
-    text.push_str(target.as_str())?;
-    push_patterns(&mut text, &get.names)?;
-    Ok(text)
+    push_target(into, &get.target)?;
+    push_patterns(into, &get.names)
 }
 
-fn put(alloc: Global, put: &Put) -> Result<String, AllocError> {
-    let mut text = on(alloc, "put", &put.image)?;
-    let how = format!(in alloc; " {:?} {}", put.layout, put.number)?;
-    text.push_str(how.as_str())?;
+fn push_put(into: &mut String, put: &Put) -> Result<(), AllocError> {
+    push_on(into, "put", &put.image)?;
+    write!(into, " {:?} {}", put.layout, put.number)?;
     match &put.name {
-        Some(name) => push_name(&mut text, name)?,
-        None => text.push_str(" none")?,
+        Some(name) => push_name(into, name)?,
+        None => into.push_str(" none")?,
     }
-    let (replaces, says, offset) = (put.replaces, put.says, put.offset);
-    let how = format!(in alloc; " replaces={replaces} says={says} {offset}")?;
-    text.push_str(how.as_str())?;
-    push_files(&mut text, &put.files)?;
-    Ok(text)
+    write!(
+        into,
+        " replaces={} says={} {}",
+        put.replaces, put.says, put.offset
+    )?;
+    push_files(into, &put.files)
 }
 
-fn made(alloc: Global, request: &Request) -> Result<String, AllocError> {
-    let Request::Make {
-        image,
-        size,
-        blocks,
-        label,
-        offset,
-    } = request
-    else {
-        return Ok(String::new(alloc));
-    };
-    let mut text = command(alloc, "make", image.text(), Some(*size))?;
-    let count = format!(in alloc; " {blocks} ")?;
-    text.push_str(count.as_str())?;
-    push_ascii(&mut text, label)?;
-    let zone = format!(in alloc; " {offset}")?;
-    text.push_str(zone.as_str())?;
-    Ok(text)
+// Adds a command that changes an image, whether it says what it does, and the zone.
+fn push_change(
+    into: &mut String,
+    name: &str,
+    image: &Image,
+    says: bool,
+    offset: i32,
+) -> Result<(), AllocError> {
+    push_on(into, name, image)?;
+    write!(into, " says={says} {offset}")
 }
 
-fn changed(alloc: Global, request: &Request) -> Result<String, AllocError> {
+fn push_names(into: &mut String, from: &Name, to: &Name) -> Result<(), AllocError> {
+    push_name(into, from)?;
+    push_name(into, to)
+}
+
+// Adds the blocks, the label and the zone of an image that is made.
+fn push_made(
+    into: &mut String,
+    blocks: u32,
+    label: &[u8; 6],
+    offset: i32,
+) -> Result<(), AllocError> {
+    write!(into, " {blocks} ")?;
+    push_ascii(into, label)?;
+    write!(into, " {offset}")
+}
+
+fn push_blocks(into: &mut String, blocks: &Series<u32>) -> Result<(), AllocError> {
+    for block in blocks.as_slice() {
+        write!(into, " {block}")?;
+    }
+    Ok(())
+}
+
+// Adds a command with its image, and what else is asked of that alone.
+fn push_head(into: &mut String, request: &Request) -> Result<(), AllocError> {
     match request {
+        Request::List { image, .. } => push_on(into, "list", image),
+        Request::Info(image) => push_on(into, "info", image),
+        Request::Get(request) => push_get(into, request),
+        Request::Put(request) => push_put(into, request),
         Request::Erase {
             image,
             says,
             offset,
-            names,
-        } => {
-            let mut text = on(alloc, "erase", image)?;
-            let how = format!(in alloc; " says={says} {offset}")?;
-            text.push_str(how.as_str())?;
-            push_patterns(&mut text, names)?;
-            Ok(text)
-        }
+            ..
+        } => { push_change(into, "erase", image, *says, *offset) }
         Request::Rename {
             image,
             says,
             offset,
-            from,
-            to,
-        } => {
-            let mut text = on(alloc, "rename", image)?;
-            let how = format!(in alloc; " says={says} {offset}")?;
-            text.push_str(how.as_str())?;
-            push_name(&mut text, from)?;
-            push_name(&mut text, to)?;
-            Ok(text)
-        }
-        _ => made(alloc, request),
+            ..
+        } => { push_change(into, "rename", image, *says, *offset) }
+        Request::Make { image, size, .. } => push_command(into, "make", image.text(), Some(*size)),
+        Request::Check(image) => push_on(into, "check", image),
+        Request::Dump { image, .. } => push_on(into, "dump", image),
     }
 }
 
-fn asked(alloc: Global, request: &Request) -> Result<String, AllocError> {
+// Adds what stands behind that.
+fn push_rest(into: &mut String, request: &Request) -> Result<(), AllocError> {
     match request {
-        Request::List { image, long, names } => {
-            let mut text = on(alloc, "list", image)?;
-            let how = format!(in alloc; " long={long}")?;
-            text.push_str(how.as_str())?;
-            push_patterns(&mut text, names)?;
-            Ok(text)
+        Request::List { long, names, .. } => {
+            write!(into, " long={long}")?;
+            push_patterns(into, names)
         }
-        Request::Info(image) => on(alloc, "info", image),
-        Request::Get(request) => get(alloc, request),
-        Request::Put(request) => put(alloc, request),
-        Request::Check(image) => on(alloc, "check", image),
-        Request::Dump { image, blocks } => {
-            let mut text = on(alloc, "dump", image)?;
-            for block in blocks.as_slice() {
-                let number = format!(in alloc; " {block}")?;
-                text.push_str(number.as_str())?;
-            }
-            Ok(text)
-        }
-        _ => changed(alloc, request),
+        Request::Erase { names, .. } => push_patterns(into, names),
+        Request::Rename { from, to, .. } => push_names(into, from, to),
+        Request::Make {
+            blocks,
+            label,
+            offset,
+            ..
+        } => push_made(into, *blocks, label, *offset),
+        Request::Dump { blocks, .. } => push_blocks(into, blocks),
+        _ => Ok(()),
     }
+}
+
+// Adds requests with blanks between.
+fn push_requests(into: &mut String, requests: &Series<Request>) -> Result<(), AllocError> {
+    for request in requests.as_slice() {
+        if !into.is_empty() {
+            into.push(' ')?;
+        }
+        push_head(into, request)?;
+        push_rest(into, request)?;
+    }
+    Ok(())
 }
 
 /// What a case comes to.
 pub fn answer(alloc: Global, case: &str) -> Result<String, AllocError> {
-    let requests = match read_requests(alloc, &argv(alloc, case)?) {
-        Ok(requests) => requests,
-        Err(Refused::Clap(error)) => return told(alloc, &error.kind()),
-        Err(Refused::Word(fault)) => return told(alloc, &fault),
-    };
-    let mut text = String::new(alloc);
-    for request in requests.as_slice() {
-        if !text.is_empty() {
-            text.push(' ')?;
-        }
-        text.push_str(asked(alloc, request)?.as_str())?;
+    let mut told = String::new(alloc);
+    match read_requests(alloc, &argv(alloc, case)?) {
+        Ok(requests) => push_requests(&mut told, &requests)?,
+        Err(Refused::Clap(error)) => write!(told, "{:?}", error.kind())?,
+        Err(Refused::Word(fault)) => write!(told, "{fault:?}")?,
     }
-    Ok(text)
+    Ok(told)
 }
