@@ -1,6 +1,6 @@
 // Sessions that access disks, as transcripts, and one whose erasure comes to a doubt.
 use crate::transcript::check_sessions;
-use crate::trial::Trial;
+use crate::trial::{Trial, check_trials};
 use std::test::Fail;
 
 const ACCESSED: &str = "# empty + two files, one root
@@ -120,7 +120,7 @@ R(00024);
 
 #[test]
 fn disks_are_accessed(rt: HostRuntime) -> Result<(), Fail> {
-    check_sessions(rt.alloc(), ACCESSED)
+    check_sessions(rt.alloc(), &[ACCESSED])
 }
 
 // An erasure may come to a doubt, which an access ends.
@@ -203,5 +203,5 @@ R(00028);
 
 #[test]
 fn a_doubt_ends_with_an_access(rt: HostRuntime) -> Result<(), Fail> {
-    DOUBTED.check(rt.alloc())
+    check_trials(rt.alloc(), &[DOUBTED])
 }

@@ -1,6 +1,6 @@
 // Sessions that move the stamps of disks by a century, as transcripts.
 use crate::transcript::check_sessions;
-use crate::trial::Trial;
+use crate::trial::{Trial, check_trials};
 use std::test::Fail;
 
 // Stamps of 1900, 1969, 1970 and 1999, and of 29 February 1900, by pivots. What was moved stays where the stamps are moved again.
@@ -157,8 +157,7 @@ R(00100);
 
 #[test]
 fn stamps_are_moved_and_kept(rt: HostRuntime) -> Result<(), Fail> {
-    check_sessions(rt.alloc(), MOVED)?;
-    check_sessions(rt.alloc(), REFUSED)
+    check_sessions(rt.alloc(), &[MOVED, REFUSED])
 }
 
 // All of a directory of two blocks below a pointer block is written anew.
@@ -228,5 +227,5 @@ R(00036);
 
 #[test]
 fn a_crash_leaves_all_stamps_or_none(rt: HostRuntime) -> Result<(), Fail> {
-    LONG.check(rt.alloc())
+    check_trials(rt.alloc(), &[LONG])
 }

@@ -476,14 +476,6 @@ ALPHA TEXT A1 TO ALPHA TEXT B1
 R;
 ";
 
-#[test]
-fn files_are_copied(rt: HostRuntime) -> Result<(), Fail> {
-    check_sessions(rt.alloc(), COPIED)?;
-    check_sessions(rt.alloc(), STEPS)?;
-    check_sessions(rt.alloc(), LARGE)?;
-    check_sessions(rt.alloc(), REFUSED)
-}
-
 // Files that grow. A file of 300 records of one block each has 304 blocks; one more takes a data block, two pointer blocks and a map, and
 // where only three are free it is refused. A record of 21,502 bytes fills 42 data blocks, over which one pointer block is full; behind it
 // three blocks are taken, and that one is kept.
@@ -612,11 +604,6 @@ ABC
 R;
 ";
 
-#[test]
-fn files_grow(rt: HostRuntime) -> Result<(), Fail> {
-    check_sessions(rt.alloc(), GROWN)
-}
-
 // The calls of the world in sessions. A file is read once, block by block as it is written, where its
 // disk tells how long the copies are; else it is read twice. What is refused reads no more than it
 // must, and writes nothing. Where a call fails meanwhile the device is named on which it failed.
@@ -703,6 +690,6 @@ R;
 ";
 
 #[test]
-fn blocks_are_written_as_they_are_read(rt: HostRuntime) -> Result<(), Fail> {
-    check_sessions(rt.alloc(), CALLS)
+fn files_are_copied(rt: HostRuntime) -> Result<(), Fail> {
+    check_sessions(rt.alloc(), &[COPIED, STEPS, LARGE, REFUSED, GROWN, CALLS])
 }

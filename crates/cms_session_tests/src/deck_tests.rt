@@ -381,8 +381,8 @@ R;
 
 #[test]
 fn files_go_by_cards(rt: HostRuntime) -> Result<(), Fail> {
-    for sessions in [DUMPED, PUNCHED, WIDE, PIECES, FILLED, KEPT, REFUSED, RUN] {
-        check_sessions(rt.alloc(), sessions)?;
-    }
-    Ok(())
+    check_sessions(
+        rt.alloc(),
+        &[DUMPED, PUNCHED, WIDE, PIECES, FILLED, KEPT, REFUSED, RUN],
+    )
 }

@@ -90,7 +90,5 @@ R(00036);
 
 #[test]
 fn disks_are_told_of_and_released(rt: HostRuntime) -> Result<(), Fail> {
-    check_sessions(rt.alloc(), ASKED)?;
-    check_sessions(rt.alloc(), RELEASED)?;
-    check_sessions(rt.alloc(), UNITS)
+    check_sessions(rt.alloc(), &[ASKED, RELEASED, UNITS])
 }

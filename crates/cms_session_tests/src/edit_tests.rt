@@ -241,6 +241,5 @@ R;
 
 #[test]
 fn files_are_edited(rt: HostRuntime) -> Result<(), Fail> {
-    check_sessions(rt.alloc(), EDITS)?;
-    check_sessions(rt.alloc(), SPOKEN)
+    check_sessions(rt.alloc(), &[EDITS, SPOKEN])
 }

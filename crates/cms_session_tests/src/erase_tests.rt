@@ -1,7 +1,7 @@
 // Sessions that erase files of disk A, as transcripts, and what they leave at each moment.
 use crate::session::ended;
 use crate::transcript::{check_sessions, passed};
-use crate::trial::Trial;
+use crate::trial::{Trial, check_trials};
 use crate::volumes::world_at;
 use cms_images::hello::{NEW_DIRECTORY, NEW_LABEL, NEW_MAP, hello};
 use cms_images::{Edit, image_left, put_edits};
@@ -92,7 +92,7 @@ R;
 
 #[test]
 fn files_are_erased_and_kept(rt: HostRuntime) -> Result<(), Fail> {
-    check_sessions(rt.alloc(), SESSIONS)
+    check_sessions(rt.alloc(), &[SESSIONS])
 }
 
 // 1 July 2026 at noon, in seconds after 1970.
@@ -311,11 +311,6 @@ R(00100);
 ",
 };
 
-#[test]
-fn a_crash_leaves_the_old_or_the_new(rt: HostRuntime) -> Result<(), Fail> {
-    TWICE.check(rt.alloc())
-}
-
 // Two of the twenty files of a volume whose directory and map have several blocks are erased.
 const WIDE: Trial = Trial {
     images: "wide",
@@ -378,6 +373,6 @@ R;
 };
 
 #[test]
-fn any_volume_is_erased_from(rt: HostRuntime) -> Result<(), Fail> {
-    WIDE.check(rt.alloc())
+fn a_crash_leaves_the_old_or_the_new(rt: HostRuntime) -> Result<(), Fail> {
+    check_trials(rt.alloc(), &[TWICE, WIDE])
 }

@@ -501,20 +501,9 @@ R;
 ";
 
 #[test]
-fn records_are_stacked(rt: HostRuntime) -> Result<(), Fail> {
-    check_sessions(rt.alloc(), READ)?;
-    check_sessions(rt.alloc(), FILLED)?;
-    check_sessions(rt.alloc(), TURNS)?;
-    check_sessions(rt.alloc(), UNREAD)
-}
-
-#[test]
-fn lines_are_written(rt: HostRuntime) -> Result<(), Fail> {
-    check_sessions(rt.alloc(), GIVEN)?;
-    check_sessions(rt.alloc(), ASKED)
-}
-
-#[test]
-fn refused_lines_read_and_write_nothing(rt: HostRuntime) -> Result<(), Fail> {
-    check_sessions(rt.alloc(), REFUSED)
+fn records_are_stacked_and_written(rt: HostRuntime) -> Result<(), Fail> {
+    check_sessions(
+        rt.alloc(),
+        &[READ, FILLED, TURNS, UNREAD, GIVEN, ASKED, REFUSED],
+    )
 }

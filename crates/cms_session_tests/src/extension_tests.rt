@@ -332,10 +332,7 @@ R(00028);
 
 #[test]
 fn extensions_answer_their_lines(rt: HostRuntime) -> Result<(), Fail> {
-    check_sessions(rt.alloc(), TALLIES)?;
-    check_sessions(rt.alloc(), ASKING)?;
-    check_sessions(rt.alloc(), SENT)?;
-    check_sessions(rt.alloc(), FILES)
+    check_sessions(rt.alloc(), &[TALLIES, ASKING, SENT, FILES])
 }
 
 // Whether a word is taken once.

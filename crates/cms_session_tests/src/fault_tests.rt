@@ -1,5 +1,5 @@
 // Sessions in which each call of the world fails in turn, or the machine stops.
-use crate::trial::Trial;
+use crate::trial::{Trial, check_trials};
 use std::test::Fail;
 
 // A volume is made, and a file on it.
@@ -611,12 +611,5 @@ R;
 
 #[test]
 fn each_call_leaves_the_old_or_the_new(rt: HostRuntime) -> Result<(), Fail> {
-    MADE.check(rt.alloc())?;
-    ERASED.check(rt.alloc())?;
-    LOADED.check(rt.alloc())
-}
-
-#[test]
-fn a_file_that_a_procedure_moves_is_never_lost(rt: HostRuntime) -> Result<(), Fail> {
-    MOVED.check(rt.alloc())
+    check_trials(rt.alloc(), &[MADE, ERASED, LOADED, MOVED])
 }

@@ -628,15 +628,8 @@ R(00028);
 
 #[test]
 fn files_are_told_typed_and_changed(rt: HostRuntime) -> Result<(), Fail> {
-    check_sessions(rt.alloc(), STATED)?;
-    check_sessions(rt.alloc(), TYPED)?;
-    check_sessions(rt.alloc(), ERASED)?;
-    check_sessions(rt.alloc(), RENAMED)?;
-    check_sessions(rt.alloc(), SESSIONS)
-}
-
-#[test]
-fn each_call_has_its_place(rt: HostRuntime) -> Result<(), Fail> {
-    check_sessions(rt.alloc(), CALLS)?;
-    check_sessions(rt.alloc(), DOUBTED)
+    check_sessions(
+        rt.alloc(),
+        &[STATED, TYPED, ERASED, RENAMED, SESSIONS, CALLS, DOUBTED],
+    )
 }

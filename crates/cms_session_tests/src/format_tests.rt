@@ -1,6 +1,6 @@
 // Sessions that format disks, as transcripts.
 use crate::transcript::check_sessions;
-use crate::trial::Trial;
+use crate::trial::{Trial, check_trials};
 use std::test::Fail;
 
 // The first two leave the known images.
@@ -126,9 +126,7 @@ R;
 
 #[test]
 fn disks_are_formatted_and_kept(rt: HostRuntime) -> Result<(), Fail> {
-    check_sessions(rt.alloc(), FORMATTED)?;
-    check_sessions(rt.alloc(), KEPT)?;
-    check_sessions(rt.alloc(), TURNS)
+    check_sessions(rt.alloc(), &[FORMATTED, KEPT, TURNS])
 }
 
 // Another volume is made of one with A FILE.
@@ -232,5 +230,5 @@ R(00036);
 
 #[test]
 fn a_device_fault_leaves_no_disk(rt: HostRuntime) -> Result<(), Fail> {
-    REMADE.check(rt.alloc())
+    check_trials(rt.alloc(), &[REMADE])
 }

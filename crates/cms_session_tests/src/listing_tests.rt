@@ -318,8 +318,5 @@ R;
 
 #[test]
 fn files_are_listed(rt: HostRuntime) -> Result<(), Fail> {
-    check_sessions(rt.alloc(), LISTED)?;
-    check_sessions(rt.alloc(), NOT_LISTED)?;
-    check_sessions(rt.alloc(), STACKED)?;
-    check_sessions(rt.alloc(), WRITTEN)
+    check_sessions(rt.alloc(), &[LISTED, NOT_LISTED, STACKED, WRITTEN])
 }

@@ -360,9 +360,8 @@ R;
 
 #[test]
 fn files_of_number_three_are_read_once(rt: HostRuntime) -> Result<(), Fail> {
-    let all = [TYPED, STACKED, KEPT, FULL, FAILED, LIMITED, READ_ON, COPIED];
-    for sessions in all {
-        check_sessions(rt.alloc(), sessions)?;
-    }
-    Ok(())
+    check_sessions(
+        rt.alloc(),
+        &[TYPED, STACKED, KEPT, FULL, FAILED, LIMITED, READ_ON, COPIED],
+    )
 }

@@ -509,7 +509,5 @@ R;
 
 #[test]
 fn procedures_run(rt: HostRuntime) -> Result<(), Fail> {
-    check_sessions(rt.alloc(), STATEMENTS)?;
-    check_sessions(rt.alloc(), COMMANDS)?;
-    check_sessions(rt.alloc(), COPIED)
+    check_sessions(rt.alloc(), &[STATEMENTS, COMMANDS, COPIED])
 }

@@ -232,7 +232,7 @@ R;
 
 #[test]
 fn procedures_are_refused(rt: HostRuntime) -> Result<(), Fail> {
-    check_sessions(rt.alloc(), REFUSED)
+    check_sessions(rt.alloc(), &[REFUSED])
 }
 
 // The procedures of sessions with few turns.

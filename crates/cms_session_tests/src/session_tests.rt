@@ -1,6 +1,6 @@
 // Whole sessions, as transcripts.
 use crate::transcript::check_sessions;
-use crate::trial::Trial;
+use crate::trial::{Trial, check_trials};
 use std::test::Fail;
 
 const SCRIPTS: &str = "# hello: 191,512,ro,A
@@ -339,18 +339,7 @@ R(00028);
 
 #[test]
 fn scripts_are_typed(rt: HostRuntime) -> Result<(), Fail> {
-    check_sessions(rt.alloc(), SCRIPTS)?;
-    check_sessions(rt.alloc(), LONG)
-}
-
-#[test]
-fn records_are_typed_as_they_are_read(rt: HostRuntime) -> Result<(), Fail> {
-    check_sessions(rt.alloc(), READ)
-}
-
-#[test]
-fn wide_volumes_have_room_in_memory(rt: HostRuntime) -> Result<(), Fail> {
-    check_sessions(rt.alloc(), WIDE)
+    check_sessions(rt.alloc(), &[SCRIPTS, LONG, READ, WIDE])
 }
 
 // A file is typed.
@@ -386,5 +375,5 @@ R(00100);
 
 #[test]
 fn each_call_fails_in_turn(rt: HostRuntime) -> Result<(), Fail> {
-    TYPED.check(rt.alloc())
+    check_trials(rt.alloc(), &[TYPED])
 }

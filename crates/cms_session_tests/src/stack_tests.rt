@@ -206,6 +206,5 @@ R;
 
 #[test]
 fn lines_are_stacked_and_read(rt: HostRuntime) -> Result<(), Fail> {
-    check_sessions(rt.alloc(), STACKED)?;
-    check_sessions(rt.alloc(), FORMATTED)
+    check_sessions(rt.alloc(), &[STACKED, FORMATTED])
 }

@@ -184,10 +184,13 @@ fn unlike(alloc: Global, transcripts: &str) -> Result<String, AllocError> {
     Ok(String::new(alloc))
 }
 
-/// Sessions are as their transcripts say. Each stands behind a line with the names of its images and, behind a colon, the program's words
-/// where they aren't [`WORDS`]. A piece in braces, with a star and a number behind it, stands for so many of it.
-pub fn check_sessions(alloc: Global, transcripts: &str) -> Result<(), Fail> {
-    passed(unlike(alloc, transcripts)?)
+/// The sessions of all tables are as their transcripts say. Each stands behind a line with the names of its images and, behind a colon, the
+/// program's words where they aren't [`WORDS`]. A piece in braces, with a star and a number behind it, stands for so many of it.
+pub fn check_sessions(alloc: Global, tables: &[&str]) -> Result<(), Fail> {
+    for transcripts in tables {
+        passed(unlike(alloc, transcripts)?)?;
+    }
+    Ok(())
 }
 
 /// A test has passed where nothing differs; else it fails by what does.

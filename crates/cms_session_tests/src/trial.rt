@@ -235,9 +235,12 @@ impl Trial {
         }
         self.failures(alloc, &transcript)
     }
+}
 
-    /// All is as the trial says: the session runs without a failure, with a crash at every moment, and with each of its calls failing.
-    pub fn check(&self, alloc: Global) -> Result<(), Fail> {
-        passed(self.difference(alloc)?)
+/// All is as the trials say: their sessions run without a failure, with a crash at every moment, and with each of their calls failing.
+pub fn check_trials(alloc: Global, trials: &[Trial]) -> Result<(), Fail> {
+    for trial in trials {
+        passed(trial.difference(alloc)?)?;
     }
+    Ok(())
 }
