@@ -1,4 +1,4 @@
-//! The tests of the crates on which all others rest, which so are proved without them, once. No part of the product.
+//! The tests of the crates that know no disk, which so are proved without them, once. No part of the product.
 #![tactic(auto)]
 
 #[cfg(test)]
@@ -10,11 +10,15 @@ mod code_page;
 #[cfg(test)]
 mod decks;
 #[cfg(test)]
+mod exec2;
+#[cfg(test)]
 mod fields;
 #[cfg(test)]
 mod files;
 #[cfg(test)]
 mod generator;
+#[cfg(test)]
+mod line;
 #[cfg(test)]
 mod maps;
 #[cfg(test)]
@@ -31,3 +35,5 @@ mod resumes;
 mod trees;
 #[cfg(test)]
 mod words;
+#[cfg(test)]
+mod world;

@@ -1,17 +1,17 @@
 // Records whose bytes come in pieces.
 use cms_cases::{bytes_of, number, told, word};
 use cms_journal::BlockSize;
-use cms_records::{Fed, RecordState, VarFault, VarScan, VarSizes, put_var};
+use cms_records::{RecordState, VarFault, VarScan, VarSizes, put_var};
 use std::alloc::{AllocError, Global};
 
-/// `varying`, `long`, `fixed`: how far the last piece is fed, or the fault.
+/// `varying`, `long`, `fixed`: how far each piece is fed, or the fault.
 /// `refused`: what is said of a length of 0 whose first byte came before, and of the piece that is fed in its place.
 /// `start/LENGTH LENGTH ..`: where the first record begins in the last data block of 512 bytes of records of these lengths.
 /// `sizes/COUNT/PIECE/PIECE`: the sizes of so many records in two pieces, which stand in whole blocks of 512 bytes.
 pub const ROWS: &str = "\
-varying => Err(Zero(8))
+varying => (Ok(Fed { next: 5, whole: true }), Ok(Fed { next: 6, whole: false }), Ok(Fed { next: 2, whole: true }), Err(Zero(8)))
 long => Err(PastEnd(0))
-fixed => Ok(Fed { next: 3, whole: false })
+fixed => (Ok(Fed { next: 2, whole: true }), Ok(Fed { next: 3, whole: false }))
 refused => (Err(Zero(3)), Ok(Fed { next: 2, whole: true }))
 start/1 => 0
 start/600 => 4294967295
@@ -32,33 +32,12 @@ sizes/2/00 03 C1 C2 C3 00 01 C4/512 zeros => Err(Left(8))";
 fn varying(alloc: Global) -> Result<String, AllocError> {
     let mut state = RecordState::new(alloc, None, 3)?;
     let first = state.feed(&[0, 3, 0xC1, 0xC2, 0xC3, 0], 0);
-    if first
-        != Ok(Fed {
-            next: 5,
-            whole: true,
-        })
-    {
-        return told(alloc, &first);
-    }
     let cut = state.feed(&[0, 3, 0xC1, 0xC2, 0xC3, 0], 5);
-    if cut
-        != Ok(Fed {
-            next: 6,
-            whole: false,
-        })
-    {
-        return told(alloc, &cut);
-    }
     let second = state.feed(&[1, 0xC4, 0, 0], 0);
-    if second
-        != Ok(Fed {
-            next: 2,
-            whole: true,
-        })
-    {
-        return told(alloc, &second);
-    }
-    told(alloc, &state.feed(&[1, 0xC4, 0, 0], 2))
+    told(
+        alloc,
+        &(first, cut, second, state.feed(&[1, 0xC4, 0, 0], 2)),
+    )
 }
 
 // A record above the longest.
@@ -71,15 +50,7 @@ fn long(alloc: Global) -> Result<String, AllocError> {
 fn fixed(alloc: Global) -> Result<String, AllocError> {
     let mut state = RecordState::new(alloc, Some(2), 2)?;
     let first = state.feed(&[0, 0, 1], 0);
-    if first
-        != Ok(Fed {
-            next: 2,
-            whole: true,
-        })
-    {
-        return told(alloc, &first);
-    }
-    told(alloc, &state.feed(&[0, 0, 1], 2))
+    told(alloc, &(first, state.feed(&[0, 0, 1], 2)))
 }
 
 // A length of which the second byte is refused, and another second byte.

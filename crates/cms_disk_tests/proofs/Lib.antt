@@ -1,2 +1,3 @@
 pub mod Accessed
 pub mod File
+mod Planned

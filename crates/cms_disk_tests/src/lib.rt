@@ -1,4 +1,4 @@
-//! The tests of cms_disk, which so is proved without them, once. No part of the product.
+//! The tests of cms_edf and cms_disk, which so are proved without them, once. No part of the product.
 #![tactic(auto)]
 
 #[cfg(test)]
@@ -7,6 +7,8 @@ mod cases;
 mod changing;
 #[cfg(test)]
 mod disk;
+#[cfg(test)]
+mod edf;
 #[cfg(test)]
 mod filed;
 #[cfg(test)]

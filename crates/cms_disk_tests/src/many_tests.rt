@@ -19,7 +19,7 @@ const OLD: u8 = 0xD6;
 const NEW: u8 = 0xD5;
 
 // A file by the letter and the number of its name, with its mode number.
-#[derive(Clone, Copy, Debug, PartialEq, Eq)]
+#[derive(Clone, Copy)]
 struct Listed {
     letter: u8,
     number: u16,

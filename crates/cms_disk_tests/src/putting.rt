@@ -176,7 +176,7 @@ fn blocks_of(alloc: Global, world: &Disk) -> Result<String, AllocError> {
     let mut text = String::new(alloc);
     for event in world.events() {
         match event {
-            Event::Wrote { block, .. } => text.push_str(&format!(in alloc; " {block}")?)?,
+            Event::Wrote { block, .. } => write!(text, " {block}")?,
             Event::Synced => text.push_str(" s")?,
         }
     }

@@ -93,7 +93,7 @@ fn lengths(
     let mut text = told(alloc, &world.calls)?;
     for _ in 0..count {
         let length = next(world, cursor);
-        text = format!(in alloc; "{text} {length:?} {}", world.calls)?;
+        write!(text, " {length:?} {}", world.calls)?;
     }
     Ok(text)
 }

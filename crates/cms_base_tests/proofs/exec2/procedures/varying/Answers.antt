@@ -1,0 +1,8 @@
+use Rattle.std.proofs.Common.{refl, rules}
+use Rattle.cms_fields.specs.Stamps.{days_of_month, is_stamp}
+use Rattle.exec2_parse.proofs.Cards.{two_are_valid}
+use Rattle.cms_base_tests.proofs.exec2.procedures.varying.Goals as goal
+
+pub returns-clause-valid : goal.returns-clause-valid
+unfolding is_stamp days_of_month
+returns-clause-valid c = two_are_valid _ refl refl refl refl refl (search rules)

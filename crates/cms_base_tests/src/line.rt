@@ -1,0 +1,9 @@
+// Console, words and options of a line, messages, and the stack.
+mod cases;
+mod consoles;
+mod messages;
+mod options;
+mod pieces;
+mod stacks;
+mod telling;
+mod typing;

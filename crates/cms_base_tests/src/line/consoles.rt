@@ -1,0 +1,160 @@
+// Scripts and their lines.
+use crate::line::pieces::{Pieces, in_pieces};
+use crate::line::telling::blank_word;
+use cms_cases::{number, push_ascii};
+use cms_line::{Console, ConsoleLine, LineFault};
+use std::alloc::{AllocError, Global};
+
+/// A script, in which `;` is a line feed, `<` a carriage return, `>` a tab, `^` a bell and `~` a deletion, and before which `N*` is so many
+/// times `A`, and its lines, of which those of more than 99 times `A` alone are told so too.
+pub const LINES: &str = " => ,,,
+A<;B; => A;B;,,,
+A< => ?;,,,
+A<<; => ?;,,,
+A<B; => ?;,,,
+a<;<; => a;;,,,
+~;B; => ?;B;,,,
+A>B; => A B;,,,
+A^;B; => ?;B;,,,
+LISTFILE => LISTFILE;,,,
+;;A; => ;;A;,,,
+<; ; => ; ;,,,
+253*; => 253*;,,,
+254*; => 254*;,,,
+255*; => 255*;,,,
+255*<; => 255*;,,,
+255* => 255*;,,,
+255*< => +;-;,,,
+256*; => +;-;,,,
+256*<;B; => +;-;B;,,,
+510*; => +;-;,,,
+511*; => +;-;-;,,,
+600*; => +;-;-;,,,
+600*<;B => +;-;-;B;,,,
+600*^;B; => +;-;-;B;,,,";
+
+/// Whether a script is given in place of the world's, and the call of the world that fails: the lines, the calls of the world, and those
+/// that read past the end.
+pub const READS: &str = "world 0 => A;B;,,,2,1
+given 0 => A;B;,,,0,0
+world 1 => !;A;B;,,,3,1
+world 2 => A;!;B;,,,3,1
+world 3 => A;B;,,,2,1";
+
+// Whether a line is of `A` alone.
+fn is_letters(line: &[u8]) -> bool {
+    for byte in line {
+        if *byte != 0xC1 {
+            return false;
+        }
+    }
+    true
+}
+
+// Adds a line's text.
+fn push_text(into: &mut String, line: &[u8]) -> Result<(), AllocError> {
+    if line.len() > 99 && is_letters(line) {
+        return write!(into, "{}*", line.len());
+    }
+    push_ascii(into, line)
+}
+
+// What stands behind a line's text, or in its place: `?` where it is bad, `+` where it is long, `-` for a further piece, `!` where the
+// world failed, and a comma at the end. Where memory was refused it is asked once more.
+fn sign(line: &Result<ConsoleLine, LineFault>) -> &'static str {
+    match line {
+        Ok(ConsoleLine::Text(_)) => ";",
+        Ok(ConsoleLine::Bad) => "?;",
+        Ok(ConsoleLine::Long) => "+;",
+        Ok(ConsoleLine::Rest) => "-;",
+        Ok(ConsoleLine::End) => ",",
+        Err(LineFault::World) => "!;",
+        Err(LineFault::Memory) => "",
+    }
+}
+
+// Adds what a console gave.
+fn push_line(into: &mut String, line: &Result<ConsoleLine, LineFault>) -> Result<(), AllocError> {
+    if let Ok(ConsoleLine::Text(text)) = line {
+        push_text(into, text.bytes())?;
+    }
+    into.push_str(sign(line))
+}
+
+// Adds the lines of a script that is given, or else of the world's. The end is asked for thrice.
+fn push_script(
+    into: &mut String,
+    alloc: Global,
+    given: Option<Vec<u8>>,
+    world: &mut Pieces<'_>,
+) -> Result<(), AllocError> {
+    let mut console = Console::new(alloc, given)?;
+    for _ in 0..1000 {
+        push_line(into, &console.next(world))?;
+        if into.ends_with(",,,") {
+            break;
+        }
+    }
+    Ok(())
+}
+
+// What a character of a case stands for.
+fn character(byte: u8) -> u8 {
+    match byte {
+        b';' => b'\n',
+        b'<' => b'\r',
+        b'>' => b'\t',
+        b'^' => 0x07,
+        b'~' => 0x7F,
+        _ => byte,
+    }
+}
+
+// Adds characters, each as what it stands for.
+fn push_characters(into: &mut Vec<u8>, text: &str) -> Result<(), AllocError> {
+    for byte in text.as_bytes() {
+        into.push(character(*byte))?;
+    }
+    Ok(())
+}
+
+/// Adds the lines of a script that is read in pieces of one size.
+pub fn push_lines(
+    into: &mut String,
+    alloc: Global,
+    size: usize,
+    case: &str,
+) -> Result<(), AllocError> {
+    let (count, ending) = case.split_once('*').unwrap_or(("", case));
+    let mut script = vec![in alloc; b'A'; number(count) as usize]?;
+    push_characters(&mut script, ending)?;
+    push_script(into, alloc, None, &mut in_pieces(alloc, &script, size, 0))
+}
+
+// The script that is given in place of the world's, if one is.
+fn given(alloc: Global, is_given: bool) -> Result<Option<Vec<u8>>, AllocError> {
+    if is_given {
+        return Ok(Some(b"A\r\nB".to_vec(alloc)?));
+    }
+    Ok(None)
+}
+
+// Adds what is read of a script, and how.
+fn push_read(
+    into: &mut String,
+    alloc: Global,
+    is_given: bool,
+    world: &mut Pieces<'_>,
+) -> Result<(), AllocError> {
+    push_script(into, alloc, given(alloc, is_given)?, world)?;
+    write!(into, "{},{}", world.calls, world.reads_past_end)
+}
+
+/// Adds what is read of a script up to its end, and further.
+pub fn push_reads(into: &mut String, alloc: Global, case: &str) -> Result<(), AllocError> {
+    let is_given = blank_word(case, 0) == "given";
+    let script = if is_given { "C\n" } else { "A\nB" };
+    let failing = number(blank_word(case, 1)) as usize;
+    let mut world = in_pieces(alloc, script.as_bytes(), 7, failing);
+    push_read(into, alloc, is_given, &mut world)
+}

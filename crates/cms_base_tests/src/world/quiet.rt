@@ -1,0 +1,145 @@
+// A world that never fails.
+use crate::world::steps::{
+    access, filling, push_bytes, push_done, step_number, step_word, unit_of,
+};
+use cms_world::{Access, Image, ImageList, QuietWorld, World};
+use std::alloc::{AllocError, Global};
+
+/// Steps with strokes between them, each with what comes of it, in a world of three images: `a` of 1,100 bytes 7, `b` of 512 bytes 9, and
+/// another `a`, which is never found. The script is `TYPE`.
+///
+/// `attach NAME ACCESS = UNIT BLOCKS`. `many NAME COUNT = .`: the image is attached so often, as the units from 0 on. `write UNIT = .`:
+/// fives are written to block 1, and synced. `block UNIT BLOCK = BYTE`: what fills the block. `read = COUNT BYTES`: how many bytes were
+/// read, and what three bytes hold then. `type TEXT = COUNT`. `now = SECONDS`.
+///
+/// In turn: units stand over images, and a later one sees what was written to its image; units past the table are the last; a script is
+/// read, and nothing is kept.
+pub const ROWS: &str = "\
+attach a rw = 0 2/attach b ro = 1 1/attach c rw = 2 0/attach a n9 = 3 9/write 0 = ./write 1 = ./write 2 = ./write 3 = ./\
+block 0 1 = 5/block 0 2 = 7/block 0 3 = 0/block 0 0 = 0/block 1 1 = 9/block 2 1 = 0/block 3 1 = 0/block 9 1 = 0/\
+attach a ro = 4 2/block 4 1 = 5/block 4 2 = 7 => true
+many a 256 = ./attach b ro = 255 1/block 255 1 = 9/block 254 1 = 7 => true
+read = 3 TYP/read = 1 EYP/read = 0 EYP/type R; = 2/now = 0 => true";
+
+fn image(alloc: Global, name: &str, byte: u8, size: usize) -> Result<Image, AllocError> {
+    Ok(Image {
+        name: String::from_str(alloc, name)?,
+        bytes: vec![in alloc; byte; size]?,
+    })
+}
+
+fn world(alloc: Global) -> Result<QuietWorld, AllocError> {
+    let mut images = ImageList::new(alloc);
+    for (name, byte, size) in [("a", 7, 1100), ("b", 9, 512), ("a", 8, 2048)] {
+        images.push(image(alloc, name, byte, size)?)?;
+    }
+    let script = b"TYPE".as_slice().to_vec(alloc)?;
+    Ok(QuietWorld::new(images, script))
+}
+
+// The number and the blocks of a unit that is attached.
+fn attach(world: &mut QuietWorld, name: &str, access: Access) -> Option<(u8, u32)> {
+    let unit = world.attach(name, 512, access).ok()?;
+    Some((unit.number, unit.blocks))
+}
+
+fn push_attached(
+    into: &mut String,
+    world: &mut QuietWorld,
+    name: &str,
+    access: Access,
+) -> Result<(), AllocError> {
+    match attach(world, name, access) {
+        Some((unit, blocks)) => write!(into, "{unit} {blocks}"),
+        None => into.push('-'),
+    }
+}
+
+// Whether the units that are attached next have the numbers from 0 up to this one.
+fn attach_many(world: &mut QuietWorld, name: &str, count: u32) -> bool {
+    for number in 0..count {
+        match attach(world, name, Access::ReadOnly) {
+            Some((unit, _)) if u32::from(unit) == number => {}
+            _ => return false,
+        }
+    }
+    true
+}
+
+fn write(world: &mut QuietWorld, unit: u8) -> bool {
+    world.write_block(unit, 1, &[5; 512]).is_ok() && world.sync(unit).is_ok()
+}
+
+fn push_block(
+    into: &mut String,
+    world: &mut QuietWorld,
+    unit: u8,
+    block: u32,
+) -> Result<(), AllocError> {
+    let mut bytes = [1; 512];
+    let is_read = world.read_block(unit, block, &mut bytes).is_ok();
+    match filling(&bytes) {
+        Some(byte) if is_read => write!(into, "{byte}"),
+        _ => into.push('-'),
+    }
+}
+
+fn push_read(
+    into: &mut String,
+    world: &mut QuietWorld,
+    bytes: &mut [u8; 3],
+) -> Result<(), AllocError> {
+    write!(into, "{} ", world.read(bytes).unwrap_or(9))?;
+    push_bytes(into, bytes)
+}
+
+fn push_typed(into: &mut String, world: &mut QuietWorld, bytes: &[u8]) -> Result<(), AllocError> {
+    if bytes.len() > 0 {
+        write!(into, "{}", world.type_out(bytes).unwrap_or(9))
+    } else {
+        into.push('-')
+    }
+}
+
+fn push_time(into: &mut String, world: &mut QuietWorld) -> Result<(), AllocError> {
+    write!(into, "{}", world.now().unwrap_or(9))
+}
+
+// Adds what comes of a step.
+fn push_step(
+    into: &mut String,
+    world: &mut QuietWorld,
+    bytes: &mut [u8; 3],
+    step: &str,
+) -> Result<(), AllocError> {
+    let name = step_word(step, 1);
+    match step_word(step, 0) {
+        "attach" => push_attached(into, world, name, access(step_word(step, 2))),
+        "many" => push_done(into, attach_many(world, name, step_number(step, 2))),
+        "write" => push_done(into, write(world, unit_of(step))),
+        "block" => push_block(into, world, unit_of(step), step_number(step, 2)),
+        "read" => push_read(into, world, bytes),
+        "type" => push_typed(into, world, name.as_bytes()),
+        "now" => push_time(into, world),
+        _ => into.push('?'),
+    }
+}
+
+// The first step that doesn't come to what it says, with what it comes to; `true` where each does.
+fn first_other(alloc: Global, world: &mut QuietWorld, steps: &str) -> Result<String, AllocError> {
+    let mut bytes = [0; 3];
+    for step in steps.split('/') {
+        let mut found = String::new(alloc);
+        let (what, wanted) = step.split_once(" = ").unwrap_or((step, ""));
+        push_step(&mut found, world, &mut bytes, what)?;
+        if found.as_str() != wanted {
+            return format!(in alloc; "{what} = {found}");
+        }
+    }
+    String::from_str(alloc, "true")
+}
+
+/// Whether each step comes to what it says, or the first that doesn't.
+pub fn answer(alloc: Global, case: &str) -> Result<String, AllocError> {
+    first_other(alloc, &mut world(alloc)?, case)
+}

@@ -1,0 +1,45 @@
+// What the steps of a world's sessions say.
+use cms_cases::number;
+use cms_world::Access;
+use std::alloc::AllocError;
+
+/// The word of a step at a place, from 0, where blanks stand between the words. Empty where there is none.
+pub fn step_word(step: &str, place: usize) -> &str {
+    step.split(' ').nth(place).unwrap_or("")
+}
+
+/// The number that a word of a step is.
+pub fn step_number(step: &str, place: usize) -> u32 {
+    number(step_word(step, place))
+}
+
+/// The unit that the second word of a step is; no unit where it is none.
+pub fn unit_of(step: &str) -> u8 {
+    step_word(step, 1).parse().unwrap_or(u8::MAX)
+}
+
+/// The access that a word says: `ro`, `rw`, or behind an `n` how many blocks are made.
+pub fn access(word: &str) -> Access {
+    match word.strip_prefix('n') {
+        Some(count) => Access::New(number(count)),
+        None if word == "ro" => Access::ReadOnly,
+        None => Access::ReadWrite,
+    }
+}
+
+/// Adds a period where something was done, and a hyphen where not.
+pub fn push_done(into: &mut String, done: bool) -> Result<(), AllocError> {
+    into.push(if done { '.' } else { '-' })
+}
+
+/// Adds bytes as the text that they are.
+pub fn push_bytes(into: &mut String, bytes: &[u8]) -> Result<(), AllocError> {
+    into.push_str(str::from_utf8(bytes).unwrap_or("?"))
+}
+
+/// The byte that fills a block of 512 bytes, if one does.
+pub fn filling(block: &[u8]) -> Option<u8> {
+    let first = *block.first()?;
+    let is_filled = block.len() == 512 && block.iter().all(|byte| *byte == first);
+    is_filled.then_some(first)
+}

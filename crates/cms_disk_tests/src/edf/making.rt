@@ -1,0 +1,302 @@
+// Empty volumes that are made on the units of a world in memory.
+use crate::edf::volumes::{TEST01, opened, state};
+use cms_cases::{number, told, word};
+use cms_edf::{Doubt, Held, make, plan_make, wipe};
+use cms_images::{Made, NOON, calls_of, formatted, image_left, image_named, world_with};
+use cms_journal::BlockSize;
+use cms_world::{Access, MemWorld, World};
+use std::alloc::{AllocError, Global};
+
+/// Volumes that are made on zeros: the bytes of a block, the blocks, and how many data blocks the map has and pointer blocks over these;
+/// and what is made, whether its bytes are as they should be, and what opens then, each as the volume id, the bytes of a block, the
+/// blocks, those that are free, and the files.
+pub const SHAPES: &str = "\
+zeros/512/8/1/0 => TEST01 (512, 8, 2, 0), byte for byte, TEST01 (512, 8, 2, 0)
+zeros/512/9/1/0 => TEST01 (512, 9, 3, 0), byte for byte, TEST01 (512, 9, 3, 0)
+zeros/1024/9/1/0 => TEST01 (1024, 9, 3, 0), byte for byte, TEST01 (1024, 9, 3, 0)
+zeros/2048/9/1/0 => TEST01 (2048, 9, 3, 0), byte for byte, TEST01 (2048, 9, 3, 0)
+zeros/4096/8/1/0 => TEST01 (4096, 8, 2, 0), byte for byte, TEST01 (4096, 8, 2, 0)
+zeros/4096/9/1/0 => TEST01 (4096, 9, 3, 0), byte for byte, TEST01 (4096, 9, 3, 0)
+zeros/512/4096/1/0 => TEST01 (512, 4096, 4090, 0), byte for byte, TEST01 (512, 4096, 4090, 0)
+zeros/512/4097/2/1 => TEST01 (512, 4097, 4089, 0), byte for byte, TEST01 (512, 4097, 4089, 0)
+zeros/512/8192/2/1 => TEST01 (512, 8192, 8184, 0), byte for byte, TEST01 (512, 8192, 8184, 0)
+zeros/512/20000/5/1 => TEST01 (512, 20000, 19989, 0), byte for byte, TEST01 (512, 20000, 19989, 0)";
+
+/// What is asked of a volume with HELLO TEXT that another one is made over.
+///
+/// - `calls`: what is made, and the letters of all calls of the world.
+/// - `blocks`: the nine blocks after so many events: `o` as they were, `n` as they will be, `z` zeros.
+/// - `crash`: what opens after a crash behind so many events, by a choice: the old volume, none, or the empty one.
+/// - `failing`: where this call of the world fails, and a write is lost or has landed: what is answered, how many events there are, and
+///   what opens then.
+pub const ROWS: &str = "\
+calls => TEST01 (512, 9, 3, 0), awswwsws
+blocks/0 => ooooooooo
+blocks/1 => oozoooooo
+blocks/2 => oozoooooo
+blocks/3 => oozoonooo
+blocks/4 => ooznonooo
+blocks/5 => ooznonooo
+blocks/6 => oonnonooo
+blocks/7 => oonnonooo
+crash/0/0 => TEST01 (512, 9, 2, 1)
+crash/0/1 => TEST01 (512, 9, 2, 1)
+crash/0/2 => TEST01 (512, 9, 2, 1)
+crash/0/3 => TEST01 (512, 9, 2, 1)
+crash/1/0 => TEST01 (512, 9, 2, 1)
+crash/1/1 => Label(Id)
+crash/1/2 => TEST01 (512, 9, 2, 1)
+crash/1/3 => Label(Id)
+crash/2/0 => Label(Id)
+crash/2/1 => Label(Id)
+crash/2/2 => Label(Id)
+crash/2/3 => Label(Id)
+crash/3/0 => Label(Id)
+crash/3/1 => Label(Id)
+crash/3/2 => Label(Id)
+crash/3/3 => Label(Id)
+crash/4/0 => Label(Id)
+crash/4/1 => Label(Id)
+crash/4/2 => Label(Id)
+crash/4/3 => Label(Id)
+crash/5/0 => Label(Id)
+crash/5/1 => Label(Id)
+crash/5/2 => Label(Id)
+crash/5/3 => Label(Id)
+crash/6/0 => Label(Id)
+crash/6/1 => TEST01 (512, 9, 3, 0)
+crash/6/2 => Label(Id)
+crash/6/3 => TEST01 (512, 9, 3, 0)
+crash/7/0 => TEST01 (512, 9, 3, 0)
+crash/7/1 => TEST01 (512, 9, 3, 0)
+crash/7/2 => TEST01 (512, 9, 3, 0)
+crash/7/3 => TEST01 (512, 9, 3, 0)
+failing/2/lost => Wiping(Either), 0 events, TEST01 (512, 9, 2, 1)
+failing/2/landed => Wiping(Either), 1 events, Label(Id)
+failing/3/lost => Wiping(Either), 1 events, Label(Id)
+failing/3/landed => Wiping(Either), 1 events, Label(Id)
+failing/4/lost => Making(Old), 2 events, Label(Id)
+failing/4/landed => Making(Old), 3 events, Label(Id)
+failing/5/lost => Making(Old), 3 events, Label(Id)
+failing/5/landed => Making(Old), 4 events, Label(Id)
+failing/6/lost => Making(Old), 4 events, Label(Id)
+failing/6/landed => Making(Old), 4 events, Label(Id)
+failing/7/lost => Making(Either), 5 events, Label(Id)
+failing/7/landed => Making(Either), 6 events, TEST01 (512, 9, 3, 0)
+failing/8/lost => Making(Either), 6 events, TEST01 (512, 9, 3, 0)
+failing/8/landed => Making(Either), 6 events, TEST01 (512, 9, 3, 0)
+failing/9/lost => TEST01 (512, 9, 3, 0), 7 events, TEST01 (512, 9, 3, 0)";
+
+// Why no volume is made.
+#[derive(Clone, Copy, Debug)]
+enum Refusal {
+    Unattached,
+    Memory,
+    Wiping(Doubt),
+    Making(Doubt),
+}
+
+// Attaches the disk, wipes it, and makes an empty volume.
+#[tactic(auto, unfolding(cms_fields::specs::Stamps::is_stamp, cms_fields::specs::Stamps::days_of_month))]
+fn make_on(alloc: Global, world: &mut MemWorld, size: BlockSize) -> Result<Held, Refusal> {
+    if world.units() > 0 {
+        return Err(Refusal::Unattached);
+    }
+    let Ok(unit) = world.attach("disk", size.bytes(), Access::ReadWrite) else {
+        return Err(Refusal::Unattached);
+    };
+    if unit.blocks < 8 {
+        return Err(Refusal::Unattached);
+    }
+    let Ok(plan) = plan_make(alloc, &unit, size, TEST01, &NOON) else {
+        return Err(Refusal::Memory);
+    };
+    match wipe(world, unit.number, size) {
+        Ok(()) => {}
+        Err(why) => return Err(Refusal::Wiping(why)),
+    }
+    match make(world, plan) {
+        Ok(held) => Ok(held),
+        Err(why) => Err(Refusal::Making(why)),
+    }
+}
+
+// The state of the volume that is made, or why none is.
+fn made(alloc: Global, world: &mut MemWorld, size: BlockSize) -> Result<String, AllocError> {
+    match make_on(alloc, world, size) {
+        Ok(held) => state(alloc, &held),
+        Err(why) => told(alloc, &why),
+    }
+}
+
+// The state of what opens in what a crash leaves.
+fn opened_left(
+    alloc: Global,
+    world: &MemWorld,
+    at: usize,
+    choice: u64,
+) -> Result<String, AllocError> {
+    let image = image_left(alloc, world, at, choice)?;
+    opened(alloc, &image, BlockSize::new(512))
+}
+
+// The shape of a volume that is made on zeros.
+fn shape_of(case: &str) -> Made {
+    Made {
+        bsize: number(word(case, 1)),
+        total: number(word(case, 2)),
+        map: number(word(case, 3)),
+        pointers: number(word(case, 4)),
+    }
+}
+
+// A world with zeros for a volume of a shape.
+fn zeros(alloc: Global, shape: &Made) -> Result<MemWorld, AllocError> {
+    let count = (shape.bsize as usize).saturating_mul(shape.total as usize);
+    let image = vec![in alloc; 0; count]?;
+    world_with(alloc, &image, 0, false)
+}
+
+// Whether an image has the bytes of a volume of a shape.
+fn bytes_of(alloc: Global, shape: &Made, image: &[u8]) -> Result<&'static str, AllocError> {
+    if formatted(alloc, shape)?.as_slice() == image {
+        Ok("byte for byte")
+    } else {
+        Ok("with other bytes")
+    }
+}
+
+// Whether an image has the bytes of a volume of a shape, and what opens in it.
+fn held_in(
+    alloc: Global,
+    shape: &Made,
+    size: BlockSize,
+    image: &[u8],
+) -> Result<String, AllocError> {
+    let bytes = bytes_of(alloc, shape, image)?;
+    let opened = opened(alloc, image, size)?;
+    format!(in alloc; "{bytes}, {opened}")
+}
+
+// The same of what is left of the first unit of a world.
+fn held_on(
+    alloc: Global,
+    shape: &Made,
+    size: BlockSize,
+    world: &MemWorld,
+) -> Result<String, AllocError> {
+    let image = image_left(alloc, world, world.events(), 0)?;
+    held_in(alloc, shape, size, &image)
+}
+
+// Makes a volume on zeros.
+fn made_on_zeros(alloc: Global, shape: &Made, size: BlockSize) -> Result<String, AllocError> {
+    let mut world = zeros(alloc, shape)?;
+    let made = made(alloc, &mut world, size)?;
+    let held = held_on(alloc, shape, size, &world)?;
+    format!(in alloc; "{made}, {held}")
+}
+
+// A block of an image.
+fn block(image: &[u8], number: usize) -> &[u8] {
+    let start = number.saturating_sub(1).saturating_mul(512);
+    let end = start.saturating_add(512);
+    image.get(start..end).unwrap_or(&[])
+}
+
+// Whether a block is as it was, as it will be, or zeros.
+fn letter(found: &[u8], before: &[u8], after: &[u8]) -> char {
+    if found == before {
+        'o'
+    } else if found == after {
+        'n'
+    } else if found.iter().all(|byte| *byte == 0) {
+        'z'
+    } else {
+        '?'
+    }
+}
+
+// A letter for each of the nine blocks.
+fn letters(alloc: Global, found: &[u8], before: &[u8], after: &[u8]) -> Result<String, AllocError> {
+    let mut text = String::new(alloc);
+    for number in 1..10 {
+        text.push(letter(
+            block(found, number),
+            block(before, number),
+            block(after, number),
+        ))?;
+    }
+    Ok(text)
+}
+
+const SMALL: Made = Made {
+    bsize: 512,
+    total: 9,
+    map: 1,
+    pointers: 0,
+};
+
+// How the blocks are after so many events.
+fn blocks(alloc: Global, world: &MemWorld, at: usize) -> Result<String, AllocError> {
+    let before = image_named(alloc, "hello")?;
+    let after = formatted(alloc, &SMALL)?;
+    letters(
+        alloc,
+        &image_left(alloc, world, at, u64::MAX)?,
+        &before,
+        &after,
+    )
+}
+
+// What was made, and the letters of all calls.
+fn calls(alloc: Global, world: &MemWorld, made: &str) -> Result<String, AllocError> {
+    let calls = calls_of(alloc, world)?;
+    format!(in alloc; "{made}, {calls}")
+}
+
+// What was made, how many events there are, and what opens then.
+fn ended(alloc: Global, world: &MemWorld, made: &str) -> Result<String, AllocError> {
+    let left = opened_left(alloc, world, world.events(), u64::MAX)?;
+    format!(in alloc; "{made}, {} events, {left}", world.events())
+}
+
+// What is asked of a world in which a volume was made over another one, with what was made.
+fn asked(alloc: Global, world: &MemWorld, case: &str, made: &str) -> Result<String, AllocError> {
+    let at = number(word(case, 1)) as usize;
+    match word(case, 0) {
+        "blocks" => blocks(alloc, world, at),
+        "crash" => opened_left(alloc, world, at, u64::from(number(word(case, 2)))),
+        "calls" => calls(alloc, world, made),
+        _ => ended(alloc, world, made),
+    }
+}
+
+// A world with a volume over which another one is made.
+fn used(alloc: Global, case: &str) -> Result<MemWorld, AllocError> {
+    let failing = match word(case, 0) {
+        "failing" => number(word(case, 1)),
+        _ => 0,
+    };
+    let image = image_named(alloc, "hello")?;
+    world_with(alloc, &image, failing, word(case, 2) == "landed")
+}
+
+// Makes a volume over another one.
+fn made_over(alloc: Global, case: &str) -> Result<String, AllocError> {
+    let mut world = used(alloc, case)?;
+    let made = made(alloc, &mut world, BlockSize::new(512))?;
+    asked(alloc, &world, case, made.as_str())
+}
+
+/// What a case comes to.
+pub fn answer(alloc: Global, case: &str) -> Result<String, AllocError> {
+    if word(case, 0) != "zeros" {
+        return made_over(alloc, case);
+    }
+    let shape = shape_of(case);
+    match BlockSize::of(shape.bsize) {
+        Some(size) => made_on_zeros(alloc, &shape, size),
+        None => String::from_str(alloc, "no size"),
+    }
+}

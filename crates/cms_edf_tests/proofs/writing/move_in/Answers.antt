@@ -1,5 +1,0 @@
-use Rattle.cms_edf_tests.proofs.Planned.{still}
-use Rattle.cms_edf_tests.proofs.writing.move_in.Goals as goal
-
-pub carry_out-requires-clause-plan : goal.carry_out-requires-clause-plan
-carry_out-requires-clause-plan c = still _ _ _ _ _ c.plan.ensures.volume c.in-Ok.ensures.planned
