@@ -1,4 +1,4 @@
-use Rattle.std.proofs.Common.{List, sym, subst, length}
+use Rattle.std.proofs.Common.{List, ap, sym, subst, length}
 use Rattle.indexmap.specs.IndexMap.{values}
 use Rattle.cms_held.specs.Kept.{IsKept, Keeps}
 use Rattle.cms_held.specs.Opening.{HeldFile, Holding}
@@ -24,3 +24,19 @@ invariant_of-self c =
       kept = subst (λ (fs : List HeldFile). IsKept i.bsize i.blocks c.systems.inside.label (length c.systems.inside.label_bytes.items) c.systems.inside.directory c.systems.inside.map_tree c.systems.inside.map fs)
           (sym (c.edit_files.ensures.files at.0 at.1)) new;
     }
+
+-- it is the one of the edit
+pub returns : goal.returns
+returns c = λ x does.
+    let files = c.edit_files.ensures.files x (subst (λ (h : Holding). DoesTo h.volume.files c.args.edit.now x) (sym c.self.view_is) does) in
+    (λ k. record {
+      unit = ap (λ (h : Holding). h.volume.unit) c.self.view_is k;
+      disk = ap (λ (h : Holding). h.volume.disk) c.self.view_is k;
+      label = ap (λ (s : Systems). s.label) c.systems.view_is k;
+      label_bytes = ap (λ (s : Systems). s.label_bytes) c.systems.view_is k;
+      directory = ap (λ (s : Systems). s.directory) c.systems.view_is k;
+      map = ap (λ (s : Systems). s.map) c.systems.view_is k;
+      bits = ap (λ (s : Systems). s.bits) c.systems.view_is k;
+      files = files k;
+      lost = ap (λ (h : Holding). h.volume.lost) c.self.view_is k;
+    })

@@ -1,4 +1,4 @@
-use Rattle.std.proofs.Common.{◌≡◌, List, [], length, position, refl, sym, subst}
+use Rattle.std.proofs.Common.{◌≡◌, List, [], length, position, refl, sym, ◌∙◌, ap, subst}
 use Rattle.indexmap.specs.IndexMap.{values}
 use Rattle.cms_model.specs.Minidisks.{same_name}
 use Rattle.cms_held.specs.Kept.{IsKept, Keeps}
@@ -23,3 +23,21 @@ invariant_of-self c =
       named = c.put_file.ensures.named;
       kept = subst (λ (l : List HeldFile). IsKept i.bsize i.blocks c.systems.inside.label (length c.systems.inside.label_bytes.items) c.systems.inside.directory c.systems.inside.map_tree c.systems.inside.map l) (sym c.put_file.ensures.files) new;
     }
+
+-- it is the one with the file
+pub returns : goal.returns
+returns c = λ edit is.
+    let name = c.args.file.entry.name in
+    let files = c.put_file.ensures.files
+    ∙ (ap (λ (h : Holding). list_with h.volume.files (position (same_name name) (names_in h.volume.files)) c.args.file) c.self.view_is ∙ sym is) in
+    (λ k. record {
+      unit = ap (λ (h : Holding). h.volume.unit) c.self.view_is k;
+      disk = ap (λ (h : Holding). h.volume.disk) c.self.view_is k;
+      label = ap (λ (s : Systems). s.label) c.systems.view_is k;
+      label_bytes = ap (λ (s : Systems). s.label_bytes) c.systems.view_is k;
+      directory = ap (λ (s : Systems). s.directory) c.systems.view_is k;
+      map = ap (λ (s : Systems). s.map) c.systems.view_is k;
+      bits = ap (λ (s : Systems). s.bits) c.systems.view_is k;
+      files = files k;
+      lost = ap (λ (h : Holding). h.volume.lost) c.self.view_is k;
+    })

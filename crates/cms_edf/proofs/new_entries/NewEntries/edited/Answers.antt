@@ -30,3 +30,12 @@ returns-in-Century-clause-edited c =
     let v = c.args.held.now.volume in
     edited_of v c.args.edit.now c.moved.result (subst (λ (h : Holding). Keeps h.volume) c.held.view_is c.held.invariant.kept) c.requires
     (rw c.in-Century.is c.moved.ensures.entries) (rw c.in-Century.is (subst (All ReadsBack) c.moved.ensures.entries c.moved.ensures.back))
+
+pub returns-in-Drop-clause-kept : goal.returns-in-Drop-clause-kept
+returns-in-Drop-clause-kept c = subst (λ (h : Holding). Keeps h.volume) c.held.view_is c.held.invariant.kept
+
+pub returns-in-Rename-clause-kept : goal.returns-in-Rename-clause-kept
+returns-in-Rename-clause-kept c = c.with.ensures.kept
+
+pub returns-in-Century-clause-kept : goal.returns-in-Century-clause-kept
+returns-in-Century-clause-kept c = subst (λ (h : Holding). Keeps h.volume) c.held.view_is c.held.invariant.kept
