@@ -3,6 +3,8 @@ pub mod MetBlocks
 pub mod Marked
 pub mod Gathered
 pub mod Faults
+pub mod Exits
+pub mod Rounded
 pub mod EntriesRead
 pub mod Listings
 pub mod NamesMet

@@ -1,9 +1,14 @@
 -- What is needed, and whether it is there.
-use Rattle.std.proofs.Common.{◌∙◌, ap, length, subst, arith}
-use Rattle.cms_map.specs.Bits.{free_blocks}
+use Rattle.std.proofs.Common.{◌∙◌, ap, length, subst, arith, ℕ, sym, ◌/◌}
+use Rattle.cms_map.specs.Bits.{free_blocks, HasFixed}
 use Rattle.cms_held.specs.Kept.{Keeps}
 use Rattle.cms_held.specs.Opening.{Holding}
 use Rattle.cms_edf.proofs.AllottedSteps.{Splits, splits_asked}
+use Rattle.cms_model.specs.DirectoryParts.{directory_count, blocks_made}
+use Rattle.cms_model.specs.Lists.{In}
+use Rattle.cms_model.specs.Sharing.{MayBeWritten}
+use Rattle.cms_tree.specs.Paths.{fresh_places}
+use Rattle.cms_edf.specs.Allotting.{numbers_made}
 use Rattle.cms_edf.proofs.allotment.allot.Goals as goal
 use Rattle.cms_edf.proofs.allotment.allot.Goals.{In-Ok}
 
@@ -64,3 +69,40 @@ returns-in-Ok-allot_all-clause-room c =
     let free = c.free_count-free.ensures.count ∙ ap (λ (h : Holding). length (free_blocks h.volume.bits)) c.held.view_is in
     let enough = c.if-free-need.false in
     omega (arith, needs, count, charge, free, enough)
+
+pub returns-in_default-clause-fixed : goal.returns-in_default-clause-fixed
+returns-in_default-clause-fixed c = subst (λ (h : Holding). HasFixed h.volume.bits) c.held.view_is c.free_count-free.ensures.fixed
+
+pub returns-then-free-need-clause-fixed : goal.returns-then-free-need-clause-fixed
+returns-then-free-need-clause-fixed c = subst (λ (h : Holding). HasFixed h.volume.bits) c.held.view_is c.free_count-free.ensures.fixed
+
+pub allot_all-requires-clause-few : goal.allot_all-requires-clause-few
+allot_all-requires-clause-few c = c.requires.few
+
+pub allot_all-requires-clause-written : goal.allot_all-requires-clause-written
+allot_all-requires-clause-written c = c.in-Ok.ensures.leaves
+
+pub allot_all-requires-clause-nodes : goal.allot_all-requires-clause-nodes
+allot_all-requires-clause-nodes c =
+    let v = c.args.held.now.volume in
+    c.in-Ok.ensures.nodes ∙ ap (fresh_places (v.disk.bsize / 4) (length v.directory.leaves) (directory_count v.disk.bsize c.args.exchange.now.files)) (sym c.in-Ok.ensures.leaves)
+
+pub allot_all-requires-clause-first : goal.allot_all-requires-clause-first
+allot_all-requires-clause-first c = subst (In 0) (sym c.in-Ok.ensures.leaves) c.requires.first
+
+pub allot_all-requires-clause-may : goal.allot_all-requires-clause-may
+allot_all-requires-clause-may c =
+    let v = c.args.held.now.volume in
+    let kept : Keeps v = subst (λ (h : Holding). Keeps h.volume) c.held.view_is c.held.invariant.kept in
+    let count = directory_count v.disk.bsize c.args.exchange.now.files in
+    subst (MayBeWritten (length v.directory.leaves) count) (sym c.in-Ok.ensures.leaves)
+    (subst (λ (n : ℕ). MayBeWritten n count (blocks_made v.disk.bsize c.args.exchange.now.files (numbers_made c.args.exchange.now))) (sym kept.directory_is) c.requires.may)
+
+pub returns-in-Ok-allot_all-clause-allotted : goal.returns-in-Ok-allot_all-clause-allotted
+returns-in-Ok-allot_all-clause-allotted c = c.in-Ok-allot_all.ensures
+
+pub returns-in-Ok-allot_all-clause-fixed : goal.returns-in-Ok-allot_all-clause-fixed
+returns-in-Ok-allot_all-clause-fixed c = subst (λ (h : Holding). HasFixed h.volume.bits) c.held.view_is c.free_count-free.ensures.fixed
+
+pub returns-in-Err-clause-fixed : goal.returns-in-Err-clause-fixed
+returns-in-Err-clause-fixed c = subst (λ (h : Holding). HasFixed h.volume.bits) c.held.view_is c.free_count-free.ensures.fixed

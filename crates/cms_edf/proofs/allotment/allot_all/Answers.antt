@@ -11,6 +11,7 @@ use Rattle.cms_held.specs.Renewing.{with_freed}
 use Rattle.cms_edf.specs.Allotting.{MapIsShared, SharesDirectory, given_back}
 use Rattle.cms_edf.proofs.AllottedSteps.{Splits, allotted_so, splits_so}
 use Rattle.cms_edf.proofs.PartsReady.{map_may}
+use Rattle.cms_edf.proofs.Exits.{ok_at_err}
 use Rattle.cms_edf.proofs.allotment.allot_all.Goals as goal
 use Rattle.cms_edf.proofs.allotment.allot_all.Goals.{After-take_blocks}
 
@@ -138,3 +139,24 @@ returns c =
     (subst (λ (l : List ℕ). AreTouched v.disk.bsize l written) (λ i. on_map v.label.blocks (turned (length (lows i)) v.bits (take used (lows i)) (given i) v.map)) c.in_ok-written.ensures.touched)
     (subst (λ (l : List ℕ). MapIsShared v written l shared.tree shared.places shared.left.items) behind_all c.in_ok-shared.ensures) (ap (λ (n : ℕ). used + n) c.written_count-2.ensures)
     (c.in_ok-map.ensures ∙ (λ i. with_freed (back i ++ gone i) bits))
+
+pub returns-in_err-lowest : goal.returns-in_err-lowest
+returns-in_err-lowest c = ok_at_err _ c.from_residual.result _ c.from_residual.ensures.1
+
+pub returns-in_err-directory : goal.returns-in_err-directory
+returns-in_err-directory c = ok_at_err _ c.from_residual-in_err-directory.result _ c.from_residual-in_err-directory.ensures.1
+
+pub returns-in_err-released : goal.returns-in_err-released
+returns-in_err-released c = ok_at_err _ c.from_residual-in_err-released.result _ c.from_residual-in_err-released.ensures.1
+
+pub returns-in_err-written : goal.returns-in_err-written
+returns-in_err-written c = ok_at_err _ c.from_residual-in_err-written.result _ c.from_residual-in_err-written.ensures.1
+
+pub returns-in_err-shared : goal.returns-in_err-shared
+returns-in_err-shared c = ok_at_err _ c.from_residual-in_err-shared.result _ c.from_residual-in_err-shared.ensures.1
+
+pub returns-in_err-map : goal.returns-in_err-map
+returns-in_err-map c = ok_at_err _ c.from_residual-in_err-map.result _ c.from_residual-in_err-map.ensures.1
+
+pub returns-in_err-file : goal.returns-in_err-file
+returns-in_err-file c = ok_at_err _ c.from_residual-in_err-file.result _ c.from_residual-in_err-file.ensures.1

@@ -6,6 +6,7 @@ use Rattle.cms_held.specs.Allotting.{on_map}
 use Rattle.cms_held.specs.MapShares.{turned}
 use Rattle.cms_held.specs.Opening.{Holding}
 use Rattle.cms_edf.proofs.BlocksMade.{all_on_map, turned_some}
+use Rattle.cms_edf.proofs.Exits.{ok_at_err}
 use Rattle.cms_edf.proofs.allotment.map_written.Goals as goal
 use Rattle.cms_edf.proofs.allotment.map_written.Goals.{else-used-eq0-via-then-used-eq0+else-is_empty, else-used-eq0-via-else-used-eq0}
 
@@ -39,3 +40,9 @@ returns c =
       touched = subst (λ (l : List ℕ). AreTouched v.disk.bsize blocks l) (sym written)
           (subst (λ (n : ℕ). AreTouched n blocks t.touched) size (subst (λ (l : List ℕ). AreTouched c.bytes-bsize.result l t.touched) (listed ∙ sym all) t.are_touched));
     }
+
+pub returns-in_err-blocks : goal.returns-in_err-blocks
+returns-in_err-blocks c = record { touched = ok_at_err _ c.from_residual.result _ c.from_residual.ensures.1 }
+
+pub returns-in_err-written : goal.returns-in_err-written
+returns-in_err-written c = record { touched = ok_at_err _ c.from_residual-in_err-written.result _ c.from_residual-in_err-written.ensures.1 }

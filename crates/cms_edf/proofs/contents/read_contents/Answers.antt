@@ -1,4 +1,4 @@
-use Rattle.std.proofs.Common.{rules, ◌≡◌, ◌++◌, ◌∷◌, [], ◌+◌, ◌<◌, ℕ, true, List, None, length, map, take, get_or, refl, sym, ◌∙◌, ap, subst, arith, append_assoc, append-nil}
+use Rattle.std.proofs.Common.{rules, ◌≡◌, ◌++◌, ◌∷◌, [], ◌+◌, ◌<◌, ℕ, true, List, None, length, map, take, get_or, refl, sym, ◌∙◌, ap, subst, arith, append_assoc, append-nil, ◌≤◌}
 use Rattle.std.specs.Map.{keys_of}
 use Rattle.std.specs.Vec.Iter.{into_iter_items}
 use Rattle.std.proofs.lemmas.List.{length_push, map_push, nil_from_length}
@@ -20,10 +20,17 @@ use Rattle.cms_edf.proofs.FileTrees.{taken_next}
 use Rattle.cms_edf.proofs.NamesMet.{name_is_new}
 use Rattle.cms_edf.proofs.RecordsRead.{ContentsTo, contents_first, contents_next, contents_bad, contents_last, count_at, nodes_at, taken_is}
 use Rattle.cms_edf.proofs.TreesRead.{plain_block}
+use Rattle.cms_edf.proofs.Exits.{ok_at_err, memory_at_err, reads_at_err, reads_behind, reads_so_far, same_at_err}
+use Rattle.std.proofs.lemmas.Map.Entries.{length-values_of}
+use Rattle.cms_fields.specs.Limits.{most_files}
+use Rattle.cms_edf.proofs.Faults.{fault_memory}
 use Rattle.cms_edf.proofs.contents.read_contents.Goals as goal
 
 index_at : (entries : List Entry) (nth k : ℕ) (e : Entry) → nth ≡ k → e ≡ get_or entries nth e → e ≡ get_or entries k e
 index_at entries nth k e same is = subst (λ (n : ℕ). e ≡ get_or entries n e) same is
+
+less_of : (k trees entries : ℕ) → k < trees → trees ≡ entries → k < entries
+less_of k trees entries less same = omega arith
 
 less_at : (nth k n : ℕ) → k < n → (trees entries : ℕ) → n ≡ trees → trees ≡ entries → k < entries
 less_at nth k n less trees entries a b = omega arith
@@ -175,3 +182,89 @@ returns-clause-read g c = λ j told.
     let count = c.requires.count in
     contents_last a.place.now.bsize image a.entries.now a.trees.items k (values l.files) (omega (arith, long, count)) (omega (arith, long))
     (subst (λ (ws : List Walked). ContentsTo a.place.now.bsize image a.entries.now ws k (values l.files)) gives (l.invariant.contents j told))
+
+pub returns-in_err-told-clause-read : goal.returns-in_err-told-clause-read
+returns-in_err-told-clause-read g c = ok_at_err _ c.from_residual.result _ c.from_residual.ensures.1
+
+pub returns-in_err-told-clause-names : goal.returns-in_err-told-clause-names
+returns-in_err-told-clause-names g c = ok_at_err _ c.from_residual.result _ c.from_residual.ensures.1
+
+pub returns-in_err-told-clause-few : goal.returns-in_err-told-clause-few
+returns-in_err-told-clause-few g c = ok_at_err _ c.from_residual.result _ c.from_residual.ensures.1
+
+pub returns-in_err-told-clause-total : goal.returns-in_err-told-clause-total
+returns-in_err-told-clause-total g c = ok_at_err _ c.from_residual.result _ c.from_residual.ensures.1
+
+pub returns-in_err-told-clause-each : goal.returns-in_err-told-clause-each
+returns-in_err-told-clause-each g c = ok_at_err _ c.from_residual.result _ c.from_residual.ensures.1
+
+pub returns-in_err-insert-clause-read : goal.returns-in_err-insert-clause-read
+returns-in_err-insert-clause-read g c = ok_at_err _ c.from_residual-in_err-insert.result _ c.from_residual-in_err-insert.ensures.1
+
+pub returns-in_err-insert-clause-names : goal.returns-in_err-insert-clause-names
+returns-in_err-insert-clause-names g c = ok_at_err _ c.from_residual-in_err-insert.result _ c.from_residual-in_err-insert.ensures.1
+
+pub returns-in_err-insert-clause-few : goal.returns-in_err-insert-clause-few
+returns-in_err-insert-clause-few g c = ok_at_err _ c.from_residual-in_err-insert.result _ c.from_residual-in_err-insert.ensures.1
+
+pub returns-in_err-insert-clause-total : goal.returns-in_err-insert-clause-total
+returns-in_err-insert-clause-total g c = ok_at_err _ c.from_residual-in_err-insert.result _ c.from_residual-in_err-insert.ensures.1
+
+pub returns-in_err-insert-clause-each : goal.returns-in_err-insert-clause-each
+returns-in_err-insert-clause-each g c = ok_at_err _ c.from_residual-in_err-insert.result _ c.from_residual-in_err-insert.ensures.1
+
+pub read_sizes-requires-clause-size : goal.read_sizes-requires-clause-size
+read_sizes-requires-clause-size g c =
+    let l = c.loop-tree in
+    let a = c.args in
+    let k = length l.yielded in
+    let gives = c.into_iter-tree-iterator.ensures.into_iter_gives.0 in
+    let steps : into_iter_items l.tree-iterator ≡ c.in-Some.tree ∷ into_iter_items c.next.new.self = c.in-Some.ensures.steps.0 in
+    let item = taken_is l.yielded c.in-Some.tree (into_iter_items c.next.new.self) a.trees.items (ap (λ (r : List Walked). l.yielded ++ r) (sym steps) ∙ (l.invariant.trees ∙ gives)) in
+    let many = l.invariant.many in
+    let nth : c.len-nth.result ≡ k = search rules in
+    let at = index_at a.entries.now c.len-nth.result k c.index-entries-nth.result nth c.index-entries-nth.is in
+    subst (HasSize a.place.now.bsize) (sym at) (c.requires.sizes k c.index-entries-nth.result (less_of k (length a.trees.items) (length a.entries.now) item.0 c.requires.count))
+
+pub returns-in_err-told-clause-reads : goal.returns-in_err-told-clause-reads
+returns-in_err-told-clause-reads g c =
+    let l = c.loop-tree.invariant in
+    reads_at_err c.from_residual.result _ c.from_residual.ensures.1 (reads_behind _ l.told l.faults l.edges c.in_err-told.ensures.reads)
+
+pub returns-in_err-insert-clause-fault : goal.returns-in_err-insert-clause-fault
+returns-in_err-insert-clause-fault g c =
+    same_at_err c.from_residual-in_err-insert.result _ c.in_err-insert.field-0.0 c.from_residual-in_err-insert.ensures.1 (λ j told. fault_memory _ _ c.in_err-insert.ensures.fault)
+
+pub returns-in_err-insert-clause-reads : goal.returns-in_err-insert-clause-reads
+returns-in_err-insert-clause-reads g c =
+    let l = c.loop-tree.invariant in
+    memory_at_err c.from_residual-in_err-insert.result _ c.from_residual-in_err-insert.ensures.1 c.in_err-insert.ensures.fault (reads_behind _ l.told l.faults l.edges c.in_ok-told.ensures.reads)
+
+pub returns-clause-names : goal.returns-clause-names
+returns-clause-names g c = c.loop-tree.invariant.named
+
+pub returns-clause-each : goal.returns-clause-each
+returns-clause-each g c = c.loop-tree.invariant.each
+
+pub returns-clause-reads : goal.returns-clause-reads
+returns-clause-reads g c =
+    let l = c.loop-tree.invariant in
+    reads_so_far _ _ _ l.told l.faults l.edges
+
+pub returns-clause-total : goal.returns-clause-total
+returns-clause-total g c =
+    let l = c.loop-tree in
+    let gives = c.into_iter-tree-iterator.ensures.into_iter_gives.0 in
+    let none = c.in-None.ensures.steps in
+    let empty : into_iter_items l.tree-iterator ≡ [] = nil_from_length _ (sym l.invariant.len ∙ none.0) in
+    let all : l.yielded ≡ c.args.trees.items = sym (append-nil l.yielded) ∙ (ap (λ (r : List Walked). l.yielded ++ r) (sym empty) ∙ (l.invariant.trees ∙ gives)) in
+    length-values_of l.files.entries ∙ (l.invariant.many ∙ (ap (λ (r : List Walked). length r) all ∙ c.requires.count))
+
+pub returns-clause-few : goal.returns-clause-few
+returns-clause-few g c =
+    let l = c.loop-tree in
+    let gives = c.into_iter-tree-iterator.ensures.into_iter_gives.0 in
+    let none = c.in-None.ensures.steps in
+    let empty : into_iter_items l.tree-iterator ≡ [] = nil_from_length _ (sym l.invariant.len ∙ none.0) in
+    let all : l.yielded ≡ c.args.trees.items = sym (append-nil l.yielded) ∙ (ap (λ (r : List Walked). l.yielded ++ r) (sym empty) ∙ (l.invariant.trees ∙ gives)) in
+    subst (λ (n : ℕ). n ≤ most_files) (sym (length-values_of l.files.entries ∙ (l.invariant.many ∙ (ap (λ (r : List Walked). length r) all ∙ c.requires.count)))) c.requires.few

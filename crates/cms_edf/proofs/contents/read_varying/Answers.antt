@@ -2,8 +2,9 @@ use Rattle.std.proofs.Common.{rules, ◌≡◌, ◌+◌, ◌*◌, ◌<◌, ◌++
 use Rattle.std.proofs.lemmas.Result.{err_from_is_err_and}
 use Rattle.cms_journal.specs.Journal.{contents_of}
 use Rattle.cms_model.specs.Trees.{image_of}
-use Rattle.cms_edf.proofs.Faults.{fault_is}
+use Rattle.cms_edf.proofs.Faults.{fault_is, fault_plain}
 use Rattle.cms_edf.proofs.RecordsRead.{takes_next, takes_bad, takes_last, starts_so, sizes_some, varying_ends, varying_sized}
+use Rattle.cms_edf.proofs.Exits.{ok_at_err, other_at_err, reads_at_err, reads_behind, reads_so_far, same_at_err, other_so_far}
 use Rattle.cms_edf.proofs.contents.read_varying.Goals as goal
 
 pub returns-in_err-feed-clause-fault : goal.returns-in_err-feed-clause-fault
@@ -80,3 +81,96 @@ returns-clause-ends g c = λ some.
     let whole : l.scan.fed ≡ length a.leaves.now * a.place.now.bsize = fed ∙ (ap (λ (n : ℕ). a.place.now.bsize * n) (sym done) ∙ mul_comm a.place.now.bsize (length a.leaves.now)) in
     varying_ends a.place.now.bsize (length a.leaves.now) l.scan.fed c.in_ok-sizes.sizes.stored some whole c.in_ok-sizes.ensures.high
     (subst (λ (n : ℕ). l.scan.fed < c.in_ok-sizes.sizes.stored + n) l.invariant.bsize c.in_ok-sizes.ensures.low)
+
+pub returns-in_err-block-clause-read : goal.returns-in_err-block-clause-read
+returns-in_err-block-clause-read g c = ok_at_err _ c.from_residual.result _ c.from_residual.ensures.1
+
+pub returns-in_err-block-clause-start : goal.returns-in_err-block-clause-start
+returns-in_err-block-clause-start g c = ok_at_err _ c.from_residual.result _ c.from_residual.ensures.1
+
+pub returns-in_err-block-clause-some : goal.returns-in_err-block-clause-some
+returns-in_err-block-clause-some g c = ok_at_err _ c.from_residual.result _ c.from_residual.ensures.1
+
+pub returns-in_err-block-clause-longest : goal.returns-in_err-block-clause-longest
+returns-in_err-block-clause-longest g c = ok_at_err _ c.from_residual.result _ c.from_residual.ensures.1
+
+pub returns-in_err-block-clause-stored : goal.returns-in_err-block-clause-stored
+returns-in_err-block-clause-stored g c = ok_at_err _ c.from_residual.result _ c.from_residual.ensures.1
+
+pub returns-in_err-block-clause-sized : goal.returns-in_err-block-clause-sized
+returns-in_err-block-clause-sized g c = ok_at_err _ c.from_residual.result _ c.from_residual.ensures.1
+
+pub returns-in_err-feed-clause-read : goal.returns-in_err-feed-clause-read
+returns-in_err-feed-clause-read g c = ok_at_err _ c.from_residual-in_err-feed.result _ c.from_residual-in_err-feed.ensures.1
+
+pub returns-in_err-feed-clause-start : goal.returns-in_err-feed-clause-start
+returns-in_err-feed-clause-start g c = ok_at_err _ c.from_residual-in_err-feed.result _ c.from_residual-in_err-feed.ensures.1
+
+pub returns-in_err-feed-clause-some : goal.returns-in_err-feed-clause-some
+returns-in_err-feed-clause-some g c = ok_at_err _ c.from_residual-in_err-feed.result _ c.from_residual-in_err-feed.ensures.1
+
+pub returns-in_err-feed-clause-longest : goal.returns-in_err-feed-clause-longest
+returns-in_err-feed-clause-longest g c = ok_at_err _ c.from_residual-in_err-feed.result _ c.from_residual-in_err-feed.ensures.1
+
+pub returns-in_err-feed-clause-stored : goal.returns-in_err-feed-clause-stored
+returns-in_err-feed-clause-stored g c = ok_at_err _ c.from_residual-in_err-feed.result _ c.from_residual-in_err-feed.ensures.1
+
+pub returns-in_err-feed-clause-sized : goal.returns-in_err-feed-clause-sized
+returns-in_err-feed-clause-sized g c = ok_at_err _ c.from_residual-in_err-feed.result _ c.from_residual-in_err-feed.ensures.1
+
+pub returns-in_err-sizes-clause-read : goal.returns-in_err-sizes-clause-read
+returns-in_err-sizes-clause-read g c = ok_at_err _ c.from_residual-in_err-sizes.result _ c.from_residual-in_err-sizes.ensures.1
+
+pub returns-in_err-sizes-clause-start : goal.returns-in_err-sizes-clause-start
+returns-in_err-sizes-clause-start g c = ok_at_err _ c.from_residual-in_err-sizes.result _ c.from_residual-in_err-sizes.ensures.1
+
+pub returns-in_err-sizes-clause-some : goal.returns-in_err-sizes-clause-some
+returns-in_err-sizes-clause-some g c = ok_at_err _ c.from_residual-in_err-sizes.result _ c.from_residual-in_err-sizes.ensures.1
+
+pub returns-in_err-sizes-clause-longest : goal.returns-in_err-sizes-clause-longest
+returns-in_err-sizes-clause-longest g c = ok_at_err _ c.from_residual-in_err-sizes.result _ c.from_residual-in_err-sizes.ensures.1
+
+pub returns-in_err-sizes-clause-stored : goal.returns-in_err-sizes-clause-stored
+returns-in_err-sizes-clause-stored g c = ok_at_err _ c.from_residual-in_err-sizes.result _ c.from_residual-in_err-sizes.ensures.1
+
+pub returns-in_err-sizes-clause-sized : goal.returns-in_err-sizes-clause-sized
+returns-in_err-sizes-clause-sized g c = ok_at_err _ c.from_residual-in_err-sizes.result _ c.from_residual-in_err-sizes.ensures.1
+
+pub returns-in_err-block-clause-fault : goal.returns-in_err-block-clause-fault
+returns-in_err-block-clause-fault g c =
+    same_at_err c.from_residual.result _ c.in_err-block.field-0.0 c.from_residual.ensures.1 (λ j told. fault_plain _ _ c.in_err-block.ensures.fault)
+
+pub returns-in_err-block-clause-ends : goal.returns-in_err-block-clause-ends
+returns-in_err-block-clause-ends g c = λ some. ok_at_err _ c.from_residual.result _ c.from_residual.ensures.1
+
+pub returns-in_err-block-clause-reads : goal.returns-in_err-block-clause-reads
+returns-in_err-block-clause-reads g c =
+    let l = c.loop-nth.invariant in
+    reads_at_err c.from_residual.result _ c.from_residual.ensures.1 (reads_behind _ l.told l.faults l.edges c.in_err-block.ensures.reads)
+
+pub returns-in_err-feed-clause-ends : goal.returns-in_err-feed-clause-ends
+returns-in_err-feed-clause-ends g c = λ some. ok_at_err _ c.from_residual-in_err-feed.result _ c.from_residual-in_err-feed.ensures.1
+
+pub returns-in_err-feed-clause-reads : goal.returns-in_err-feed-clause-reads
+returns-in_err-feed-clause-reads g c =
+    let l = c.loop-nth.invariant in
+    other_at_err c.from_residual-in_err-feed.result _ c.from_residual-in_err-feed.ensures.1 c.in_err-feed.ensures.device (reads_behind _ l.told l.faults l.edges c.in_ok-block.ensures.reads)
+
+pub returns-in_err-sizes-clause-ends : goal.returns-in_err-sizes-clause-ends
+returns-in_err-sizes-clause-ends g c = λ some. ok_at_err _ c.from_residual-in_err-sizes.result _ c.from_residual-in_err-sizes.ensures.1
+
+pub returns-clause-reads : goal.returns-clause-reads
+returns-clause-reads g c =
+    let l = c.loop-nth.invariant in
+    reads_so_far _ _ _ l.told l.faults l.edges
+
+pub returns-in_err-sizes-clause-reads : goal.returns-in_err-sizes-clause-reads
+returns-in_err-sizes-clause-reads g c =
+    let l = c.loop-nth.invariant in
+    other_so_far _ _ c.from_residual-in_err-sizes.result _ c.from_residual-in_err-sizes.ensures.1 c.in_err-sizes.ensures.device l.told l.faults l.edges
+
+pub returns-clause-longest : goal.returns-clause-longest
+returns-clause-longest g c = c.in_ok-sizes.ensures.longest
+
+pub returns-clause-stored : goal.returns-clause-stored
+returns-clause-stored g c = c.in_ok-sizes.ensures.stored

@@ -1,15 +1,26 @@
-use Rattle.std.proofs.Common.{◌≡◌, ◌≤◌, ℕ, [], length, refl, sym, ◌∙◌, ap, subst, arith}
+use Rattle.std.proofs.Common.{◌≡◌, ◌≤◌, ℕ, [], length, refl, sym, ◌∙◌, ap, subst, arith, ◌<◌, ◌+◌, ◌^◌}
 use Rattle.cms_journal.specs.Journal.{IsBlockSize}
 use Rattle.cms_fields.specs.Entries.{fan_of}
 use Rattle.cms_fields.specs.Limits.{most_files}
 use Rattle.cms_model.specs.Sizes.{levels, pointer_count}
 use Rattle.cms_held.specs.Kept.{Keeps}
-use Rattle.cms_held.specs.Putting.{AreFree, count_put}
+use Rattle.cms_held.specs.Putting.{AreFree, count_put, count_with}
 use Rattle.cms_held.specs.Opening.{HeldTree, Holding}
 use Rattle.cms_edf.specs.FileDrafts.{IsFilePlanned, entry_for}
 use Rattle.cms_edf.specs.Lacking.{LacksRoom}
-use Rattle.cms_edf.proofs.DraftPlanned.{count_files, limits, need_is, planned_parts, put_places, some_stored}
+use Rattle.cms_edf.proofs.DraftPlanned.{count_files, limits, need_is, planned_parts, put_places, some_stored, place_within}
+use Rattle.cms_held.specs.Written.{CanWrite}
+use Rattle.cms_draft.specs.Drafting.{IsFresh}
 use Rattle.cms_edf.proofs.draft.plan_file.Goals as goal
+
+count_low : (leaves nodes : ℕ) → leaves + nodes < 2 ^ 31 → leaves < 2 ^ 32
+count_low leaves nodes small = omega arith
+
+first_within : (leaves nodes taken given : ℕ) → given ≡ taken → taken ≡ leaves + nodes → leaves ≤ given
+first_within leaves nodes taken given one two = omega arith
+
+behind_first : (leaves nodes taken given behind : ℕ) → leaves + behind ≡ given → given ≡ taken → taken ≡ leaves + nodes → behind ≡ nodes
+behind_first leaves nodes taken given behind all one two = omega arith
 
 pub returns-in-Err-clause-full : goal.returns-in-Err-clause-full
 returns-in-Err-clause-full c =
@@ -89,3 +100,85 @@ returns-clause-planned c =
       own = subst (AreFree v) (sym fresh.own) (planned 0).free;
       file = λ start. subst (λ (x : HeldTree). IsFilePlanned v c.args.name.now c.args.asked.now c.args.stamp.now x c.in-Ok-plan_entry.systems start) (sym fresh.tree_is) (planned start);
     }
+
+pub count_blocks-counts-requires-clause-some : goal.count_blocks-counts-requires-clause-some
+count_blocks-counts-requires-clause-some c = some_stored c.args.asked.now c.requires.asked
+
+pub count_blocks-counts-requires-clause-few : goal.count_blocks-counts-requires-clause-few
+count_blocks-counts-requires-clause-few c =
+    (limits (count_put c.args.held.now.volume c.args.name.now) c.args.asked.now.count c.args.asked.now.bytes c.requires.unlimited).2
+
+pub entries_made_with-made-requires : goal.entries_made_with-made-requires
+entries_made_with-made-requires c = record { place = place_within c.args.name.now c.args.held.now.volume.files c.args.place c.requires.place }
+
+pub exchange_of-exchange-requires : goal.exchange_of-exchange-requires
+exchange_of-exchange-requires c = record { place = place_within c.args.name.now c.args.held.now.volume.files c.args.place c.requires.place }
+
+pub tree_in-requires : goal.tree_in-requires
+tree_in-requires c =
+    let r = c.count_blocks-counts.result in
+    first_within r.data r.pointers c.exchange_of-exchange.result.file (length c.deref.result.now)
+    (ap length c.deref.ensures.value ∙ c.in-Ok.ensures.allotted.file) c.exchange_of-exchange.ensures.file
+
+pub entry_for-entry-requires-clause-some : goal.entry_for-entry-requires-clause-some
+entry_for-entry-requires-clause-some c = subst (λ (n : ℕ). 1 ≤ n) (sym c.in-Ok-tree_in.ensures.count) c.count_blocks-counts.ensures.some
+
+pub entry_for-entry-requires-clause-few : goal.entry_for-entry-requires-clause-few
+entry_for-entry-requires-clause-few c =
+    let r = c.count_blocks-counts.result in
+    subst (λ (n : ℕ). n < 2 ^ 32) (sym c.in-Ok-tree_in.ensures.count) (count_low r.data r.pointers c.count_blocks-counts.ensures.small)
+
+pub plan_entry-requires-clause-stamp : goal.plan_entry-requires-clause-stamp
+plan_entry-requires-clause-stamp c = c.requires.stamp
+
+pub plan_entry-requires-clause-place : goal.plan_entry-requires-clause-place
+plan_entry-requires-clause-place c = place_within c.args.name.now c.args.held.now.volume.files c.args.place c.requires.place
+
+pub plan_entry-requires-clause-few : goal.plan_entry-requires-clause-few
+plan_entry-requires-clause-few c =
+    let v = c.args.held.now.volume in
+    let count = count_files v c.args.name.now c.args.place (count_with c.args.place (length v.files)) c.requires.place refl in
+    subst (λ (n : ℕ). n ≤ most_files) (sym count) (limits (count_put v c.args.name.now) c.args.asked.now.count c.args.asked.now.bytes c.requires.unlimited).0
+
+pub plan_entry-requires-clause-entry : goal.plan_entry-requires-clause-entry
+plan_entry-requires-clause-entry c =
+    let v = c.args.held.now.volume in
+    let k = c.count_blocks-counts.ensures in
+    let r = c.count_blocks-counts.result in
+    let tree = c.in-Ok-tree_in.tree in
+    let format = c.args.asked.now.format in
+    let size = ap (λ (h : Holding). h.volume.disk.bsize) c.held.view_is in
+    let count = c.in-Ok-tree_in.ensures.count in
+    let height : r.levels ≡ levels (fan_of v.disk.bsize format) (length tree.leaves) =
+    k.levels ∙ ap (λ (b : ℕ). levels (fan_of b format) r.data) size ∙ ap (levels (fan_of v.disk.bsize format)) (sym count) in
+    subst CanWrite (sym (c.entry_for-entry.ensures v.disk.bsize height)) (c.requires.asked.number, c.requires.asked.stamp)
+
+pub plan_entry-requires-clause-files : goal.plan_entry-requires-clause-files
+plan_entry-requires-clause-files c = c.exchange_of-exchange.ensures.files
+
+pub plan_entry-requires-clause-made : goal.plan_entry-requires-clause-made
+plan_entry-requires-clause-made c = c.exchange_of-exchange.ensures.made ∙ c.entries_made_with-made.ensures
+
+pub plan_entry-requires-clause-allotted : goal.plan_entry-requires-clause-allotted
+plan_entry-requires-clause-allotted c = c.in-Ok.ensures.allotted
+
+pub plan_entry-requires-clause-map_few : goal.plan_entry-requires-clause-map_few
+plan_entry-requires-clause-map_few c = c.in-Ok.ensures.map_few
+
+pub new-requires-clause-leaves : goal.new-requires-clause-leaves
+new-requires-clause-leaves c = c.in-Ok-tree_in.ensures.count ∙ c.count_blocks-counts.ensures.data
+
+pub new-requires-clause-pointers : goal.new-requires-clause-pointers
+new-requires-clause-pointers c =
+    let r = c.count_blocks-counts.result in
+    let t = c.in-Ok-tree_in in
+    behind_first r.data r.pointers c.exchange_of-exchange.result.file (length c.deref.result.now) (length t.tree.pointers) t.ensures.pointers
+    (ap length c.deref.ensures.value ∙ c.in-Ok.ensures.allotted.file) c.exchange_of-exchange.ensures.file
+    ∙ (c.count_blocks-counts.ensures.pointers ∙ ap (pointer_count (fan_of c.held.inside.bsize c.args.asked.now.format)) (sym t.ensures.count))
+
+pub returns-clause-fresh : goal.returns-clause-fresh
+returns-clause-fresh c =
+    let fresh = c.in-Ok-new.ensures in
+    let w = c.in-Ok-new.writer in
+    subst (λ (h : Holding). IsFresh h.volume.unit h.volume.disk.bsize c.args.asked.now w.writer.tree w) c.held.view_is
+    (subst (λ (t : HeldTree). IsFresh c.held.inside.unit c.held.inside.bsize c.args.asked.now t w) (sym fresh.tree_is) fresh)

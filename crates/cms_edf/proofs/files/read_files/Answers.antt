@@ -1,4 +1,4 @@
-use Rattle.std.proofs.Common.{rules, ◌≡◌, ◌++◌, ◌∷◌, ◌+◌, [], None, ℕ, ◌∙◌, ap, arith}
+use Rattle.std.proofs.Common.{rules, ◌≡◌, ◌++◌, ◌∷◌, ◌+◌, [], None, ℕ, ◌∙◌, ap, arith, sym}
 use Rattle.std.proofs.lemmas.List.{length_push}
 use Rattle.std.proofs.lemmas.List.Elements.{All-push}
 use Rattle.std.proofs.lemmas.Result.{err_from_is_err_and}
@@ -6,6 +6,8 @@ use Rattle.cms_journal.specs.Journal.{contents_of}
 use Rattle.cms_model.specs.Trees.{image_of}
 use Rattle.cms_tree.specs.Walks.{IsWithin}
 use Rattle.cms_edf.proofs.FileTrees.{files_next, files_bad, files_last, counts_next, counts_last}
+use Rattle.cms_edf.proofs.Exits.{ok_at_err, memory_at_err, reads_at_err, reads_behind, reads_so_far, same_at_err}
+use Rattle.cms_edf.proofs.Faults.{fault_memory}
 use Rattle.cms_edf.proofs.files.read_files.Goals as goal
 
 pub returns-in_err-tree-clause-fault : goal.returns-in_err-tree-clause-fault
@@ -41,3 +43,52 @@ returns-clause-read g c = λ j told. files_last c.args.place.now (image_of (cont
 
 pub returns-clause-counts : goal.returns-clause-counts
 returns-clause-counts g c = counts_last c.args.place.now.bsize c.args.entries.now c.loop-nth.nth c.loop-nth.trees.items (search rules) c.loop-nth.invariant.counts
+
+pub returns-in_err-tree-clause-read : goal.returns-in_err-tree-clause-read
+returns-in_err-tree-clause-read g c = ok_at_err _ c.from_residual.result _ c.from_residual.ensures.1
+
+pub returns-in_err-tree-clause-count : goal.returns-in_err-tree-clause-count
+returns-in_err-tree-clause-count g c = ok_at_err _ c.from_residual.result _ c.from_residual.ensures.1
+
+pub returns-in_err-tree-clause-counts : goal.returns-in_err-tree-clause-counts
+returns-in_err-tree-clause-counts g c = ok_at_err _ c.from_residual.result _ c.from_residual.ensures.1
+
+pub returns-in_err-tree-clause-within : goal.returns-in_err-tree-clause-within
+returns-in_err-tree-clause-within g c = ok_at_err _ c.from_residual.result _ c.from_residual.ensures.1
+
+pub returns-in_err-push-clause-read : goal.returns-in_err-push-clause-read
+returns-in_err-push-clause-read g c = ok_at_err _ c.from_residual-in_err-push.result _ c.from_residual-in_err-push.ensures.1
+
+pub returns-in_err-push-clause-count : goal.returns-in_err-push-clause-count
+returns-in_err-push-clause-count g c = ok_at_err _ c.from_residual-in_err-push.result _ c.from_residual-in_err-push.ensures.1
+
+pub returns-in_err-push-clause-counts : goal.returns-in_err-push-clause-counts
+returns-in_err-push-clause-counts g c = ok_at_err _ c.from_residual-in_err-push.result _ c.from_residual-in_err-push.ensures.1
+
+pub returns-in_err-push-clause-within : goal.returns-in_err-push-clause-within
+returns-in_err-push-clause-within g c = ok_at_err _ c.from_residual-in_err-push.result _ c.from_residual-in_err-push.ensures.1
+
+pub read_file-requires-clause-blocks : goal.read_file-requires-clause-blocks
+read_file-requires-clause-blocks g c = λ j told. c.requires.blocks j (sym c.loop-nth.invariant.told ∙ told)
+
+pub returns-in_err-tree-clause-reads : goal.returns-in_err-tree-clause-reads
+returns-in_err-tree-clause-reads g c =
+    let l = c.loop-nth.invariant in
+    reads_at_err c.from_residual.result _ c.from_residual.ensures.1 (reads_behind _ l.told l.faults l.edges c.in_err-tree.ensures.reads)
+
+pub returns-in_err-push-clause-fault : goal.returns-in_err-push-clause-fault
+returns-in_err-push-clause-fault g c =
+    same_at_err c.from_residual-in_err-push.result _ c.in_err-push.field-0.0 c.from_residual-in_err-push.ensures.1 (λ j told. fault_memory _ _ c.in_err-push.ensures.fault)
+
+pub returns-in_err-push-clause-reads : goal.returns-in_err-push-clause-reads
+returns-in_err-push-clause-reads g c =
+    let l = c.loop-nth.invariant in
+    memory_at_err c.from_residual-in_err-push.result _ c.from_residual-in_err-push.ensures.1 c.in_err-push.ensures.fault (reads_behind _ l.told l.faults l.edges c.in_ok-tree.ensures.reads)
+
+pub returns-clause-within : goal.returns-clause-within
+returns-clause-within g c = c.loop-nth.invariant.within
+
+pub returns-clause-reads : goal.returns-clause-reads
+returns-clause-reads g c =
+    let l = c.loop-nth.invariant in
+    reads_so_far _ _ _ l.told l.faults l.edges

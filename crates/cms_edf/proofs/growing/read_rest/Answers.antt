@@ -7,6 +7,8 @@ use Rattle.cms_model.proofs.Images.{block_in_image}
 use Rattle.cms_held.specs.Drafts.{filled}
 use Rattle.cms_held.specs.Opening.{HeldFile, Holding}
 use Rattle.cms_edf.proofs.GrownNumbers.{cleared, rest_within}
+use Rattle.cms_edf.proofs.Exits.{ok_at_err, reads_at_err, reads_at_ok, reads_none}
+use Rattle.cms_world.specs.declared.block.ReadFault.TheVariants as unread
 use Rattle.cms_edf.proofs.growing.read_rest.Goals as goal
 
 -- of the block that was read the first bytes were left
@@ -35,3 +37,44 @@ returns-clause-bytes g c = λ j told more.
     let all : length c.clear_behind.new.bytes ≡ c.in_ok-block.block.len = search rules in
     take_at c.clear_behind.new.bytes (drop (length c.clear_behind.new.bytes) items) c.in_ok-block.block.len all
     ∙ (cut ∙ (cleared v.disk.bsize r items long (omega arith) ∙ ap (λ (l : List ℕ). filled v.disk.bsize (take r l)) image))
+
+pub returns-in_err-block-clause-bytes : goal.returns-in_err-block-clause-bytes
+returns-in_err-block-clause-bytes g c = ok_at_err _ c.from_residual.result _ c.from_residual.ensures.1
+
+pub returns-in_err-block-clause-zeros : goal.returns-in_err-block-clause-zeros
+returns-in_err-block-clause-zeros g c = ok_at_err _ c.from_residual.result _ c.from_residual.ensures.1
+
+pub returns-in_err-block-clause-long : goal.returns-in_err-block-clause-long
+returns-in_err-block-clause-long g c = ok_at_err _ c.from_residual.result _ c.from_residual.ensures.1
+
+no_device : unread.Memory ≡ unread.Device → ⊥
+no_device is = cc
+
+not_some : (n : ℕ) → n ≡ 0 → 1 ≤ n → ⊥
+not_some n none some = omega arith
+
+pub returns-in_default-clause-reads : goal.returns-in_default-clause-reads
+returns-in_default-clause-reads g c = reads_none _ _ no_device
+
+pub returns-then-filled-eq0-clause-bytes : goal.returns-then-filled-eq0-clause-bytes
+returns-then-filled-eq0-clause-bytes g c = λ j told more.
+    let a = c.args in
+    let bytes : c.bytes-bsize.result ≡ a.held.now.volume.disk.bsize = c.bytes-bsize.ensures.value ∙ ap (λ (h : Holding). h.volume.disk.bsize) c.held.view_is in
+    let rest : c.file.inside.size % c.bytes-bsize.result ≡ a.file.now.size % a.held.now.volume.disk.bsize = (λ i. ap (λ (f : HeldFile). f.size) c.file.view_is i % bytes i) in
+    absurd (not_some _ (sym rest ∙ c.if-filled-eq0.true) more)
+
+pub returns-then-filled-eq0-clause-reads : goal.returns-then-filled-eq0-clause-reads
+returns-then-filled-eq0-clause-reads g c = reads_none _ _ tt
+
+pub returns-in_err-block-clause-reads : goal.returns-in_err-block-clause-reads
+returns-in_err-block-clause-reads g c = reads_at_err c.from_residual.result _ c.from_residual.ensures.1 c.in_err-block.ensures.reads
+
+pub returns-clause-zeros : goal.returns-clause-zeros
+returns-clause-zeros g c = λ none.
+    let a = c.args in
+    let bytes : c.bytes-bsize.result ≡ a.held.now.volume.disk.bsize = c.bytes-bsize.ensures.value ∙ ap (λ (h : Holding). h.volume.disk.bsize) c.held.view_is in
+    let rest : c.file.inside.size % c.bytes-bsize.result ≡ a.file.now.size % a.held.now.volume.disk.bsize = (λ i. ap (λ (f : HeldFile). f.size) c.file.view_is i % bytes i) in
+    absurd (c.if-filled-eq0.false (rest ∙ none))
+
+pub returns-clause-reads : goal.returns-clause-reads
+returns-clause-reads g c = reads_at_ok _ c.in_ok-block.ensures.reads

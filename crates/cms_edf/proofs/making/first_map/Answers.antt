@@ -1,9 +1,11 @@
 -- The map takes the lowest free blocks of one in which only the first five are in use.
-use Rattle.std.proofs.Common.{◌≡◌, ◌+◌, ◌≤◌, ◌/◌, ℕ, Bool, List, length, take, sym, ◌∙◌, ap, subst, rules, arith}
+use Rattle.std.proofs.Common.{◌≡◌, ◌+◌, ◌≤◌, ◌/◌, ℕ, Bool, List, length, take, sym, ◌∙◌, ap, subst, arith}
 use Rattle.cms_fields.specs.Numbers.{up}
 use Rattle.cms_model.specs.Sizes.{pointer_count}
 use Rattle.cms_map.specs.Bits.{free_blocks, with_marked}
 use Rattle.cms_held.proofs.NewMap.{TakesFirst, map_fits, takes_first}
+use Rattle.cms_edf.proofs.Exits.{ok_at_err}
+use Rattle.cms_edf.proofs.Rounded.{map_rounded}
 use Rattle.cms_edf.proofs.making.first_map.Goals as goal
 use Rattle.cms_edf.proofs.making.first_map.Goals.{After-shape}
 
@@ -19,7 +21,7 @@ fits bsize total count low least t = let e = t.size in omega (arith, map_fits bs
 -- the blocks of the map, as many as its size says
 first_blocks : (c : After-shape) → TakesFirst c.args.bsize c.args.total (c.div_ceil-data.result + c.shape.result.pointers)
 first_blocks c =
-    let leaves : c.div_ceil-data.result ≡ up (up c.args.total 8) c.bytes.result = search rules in
+    let leaves = map_rounded c.div_ceil-data.result c.div_ceil.result c.args.total c.bytes.result c.div_ceil-data.ensures c.div_ceil.ensures c.bytes.ensures.least in
     sizes c.args.bsize c.args.total c.bytes.result c.bytes-2.result c.div_ceil-data.result c.shape.result.pointers c.bytes.ensures.least
     c.bytes.ensures.value c.bytes-2.ensures.value c.requires leaves c.shape.ensures.pointers
 
@@ -62,3 +64,48 @@ pub returns-clause-used : goal.returns-clause-used
 returns-clause-used c =
     let t = first_blocks (goal.at.returns-clause-used c).After-shape in
     ap (λ (n : ℕ). 5 + n) t.size
+
+pub returns-in_err-blank_map-clause-count : goal.returns-in_err-blank_map-clause-count
+returns-in_err-blank_map-clause-count c = ok_at_err _ c.from_residual.result _ c.from_residual.ensures.1
+
+pub returns-in_err-blank_map-clause-nodes : goal.returns-in_err-blank_map-clause-nodes
+returns-in_err-blank_map-clause-nodes c = ok_at_err _ c.from_residual.result _ c.from_residual.ensures.1
+
+pub returns-in_err-blank_map-clause-from : goal.returns-in_err-blank_map-clause-from
+returns-in_err-blank_map-clause-from c = ok_at_err _ c.from_residual.result _ c.from_residual.ensures.1
+
+pub returns-in_err-blank_map-clause-bits : goal.returns-in_err-blank_map-clause-bits
+returns-in_err-blank_map-clause-bits c = ok_at_err _ c.from_residual.result _ c.from_residual.ensures.1
+
+pub returns-in_err-blank_map-clause-used : goal.returns-in_err-blank_map-clause-used
+returns-in_err-blank_map-clause-used c = ok_at_err _ c.from_residual.result _ c.from_residual.ensures.1
+
+pub returns-in_err-taken-clause-count : goal.returns-in_err-taken-clause-count
+returns-in_err-taken-clause-count c = ok_at_err _ c.from_residual-in_err-taken.result _ c.from_residual-in_err-taken.ensures.1
+
+pub returns-in_err-taken-clause-nodes : goal.returns-in_err-taken-clause-nodes
+returns-in_err-taken-clause-nodes c = ok_at_err _ c.from_residual-in_err-taken.result _ c.from_residual-in_err-taken.ensures.1
+
+pub returns-in_err-taken-clause-from : goal.returns-in_err-taken-clause-from
+returns-in_err-taken-clause-from c = ok_at_err _ c.from_residual-in_err-taken.result _ c.from_residual-in_err-taken.ensures.1
+
+pub returns-in_err-taken-clause-bits : goal.returns-in_err-taken-clause-bits
+returns-in_err-taken-clause-bits c = ok_at_err _ c.from_residual-in_err-taken.result _ c.from_residual-in_err-taken.ensures.1
+
+pub returns-in_err-taken-clause-used : goal.returns-in_err-taken-clause-used
+returns-in_err-taken-clause-used c = ok_at_err _ c.from_residual-in_err-taken.result _ c.from_residual-in_err-taken.ensures.1
+
+pub returns-in_err-tree_in-clause-count : goal.returns-in_err-tree_in-clause-count
+returns-in_err-tree_in-clause-count c = ok_at_err _ c.from_residual-in_err-tree_in.result _ c.from_residual-in_err-tree_in.ensures.1
+
+pub returns-in_err-tree_in-clause-nodes : goal.returns-in_err-tree_in-clause-nodes
+returns-in_err-tree_in-clause-nodes c = ok_at_err _ c.from_residual-in_err-tree_in.result _ c.from_residual-in_err-tree_in.ensures.1
+
+pub returns-in_err-tree_in-clause-from : goal.returns-in_err-tree_in-clause-from
+returns-in_err-tree_in-clause-from c = ok_at_err _ c.from_residual-in_err-tree_in.result _ c.from_residual-in_err-tree_in.ensures.1
+
+pub returns-in_err-tree_in-clause-bits : goal.returns-in_err-tree_in-clause-bits
+returns-in_err-tree_in-clause-bits c = ok_at_err _ c.from_residual-in_err-tree_in.result _ c.from_residual-in_err-tree_in.ensures.1
+
+pub returns-in_err-tree_in-clause-used : goal.returns-in_err-tree_in-clause-used
+returns-in_err-tree_in-clause-used c = ok_at_err _ c.from_residual-in_err-tree_in.result _ c.from_residual-in_err-tree_in.ensures.1

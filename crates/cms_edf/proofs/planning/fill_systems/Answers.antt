@@ -10,6 +10,8 @@ use Rattle.cms_held.specs.Systems.{Systems, directory_piece}
 use Rattle.cms_edf.specs.Doubts.{IsReady}
 use Rattle.cms_edf.proofs.NodesKept.{all_at}
 use Rattle.cms_edf.proofs.Planned.{allotted_bits, directory_may, is_ready}
+use Rattle.cms_edf.proofs.Exits.{ok_at_err}
+use Rattle.cms_model.specs.DirectoryParts.{directory_count}
 use Rattle.cms_edf.proofs.planning.fill_systems.Goals as goal
 
 pub label_for-requires-clause-count : goal.label_for-requires-clause-count
@@ -95,3 +97,32 @@ returns c =
         back = c.requires.back;
       };
     }
+
+pub returns-in_err-directory_bytes : goal.returns-in_err-directory_bytes
+returns-in_err-directory_bytes c = ok_at_err _ c.from_residual.result _ c.from_residual.ensures.1
+
+pub returns-in_err-new : goal.returns-in_err-new
+returns-in_err-new c = ok_at_err _ c.from_residual-in_err-new.result _ c.from_residual-in_err-new.ensures.1
+
+pub directory_bytes-requires-clause-stamp : goal.directory_bytes-requires-clause-stamp
+directory_bytes-requires-clause-stamp c = c.requires.stamp
+
+pub directory_bytes-requires-clause-few : goal.directory_bytes-requires-clause-few
+directory_bytes-requires-clause-few c = c.requires.few
+
+pub directory_bytes-requires-clause-each : goal.directory_bytes-requires-clause-each
+directory_bytes-requires-clause-each c = c.requires.each
+
+pub directory_bytes-requires-clause-back : goal.directory_bytes-requires-clause-back
+directory_bytes-requires-clause-back c = c.requires.back
+
+pub directory_bytes-requires-clause-directory : goal.directory_bytes-requires-clause-directory
+directory_bytes-requires-clause-directory c =
+    let size = ap (λ (h : Holding). h.volume.disk.bsize) c.held.view_is in
+    c.requires.allotted.directory_is ∙ (λ i. directory_count (sym size i) (c.requires.files i))
+
+pub directory_bytes-requires-clause-map_few : goal.directory_bytes-requires-clause-map_few
+directory_bytes-requires-clause-map_few c = c.requires.map_few
+
+pub label_for-requires-clause-origin : goal.label_for-requires-clause-origin
+label_for-requires-clause-origin c = c.held.invariant.kept.origin_high

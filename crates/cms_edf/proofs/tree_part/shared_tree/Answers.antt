@@ -8,6 +8,7 @@ use Rattle.cms_tree.specs.Paths.{numbered, path_levels}
 use Rattle.cms_tree.proofs.Pathing.{places_count}
 use Rattle.cms_held.specs.Systems.{TreePart}
 use Rattle.cms_edf.proofs.SharedTaken.{IsShared, leaves_fresh, shared_so}
+use Rattle.cms_edf.proofs.Exits.{ok_at_err}
 use Rattle.cms_edf.proofs.tree_part.shared_tree.Goals as goal
 use Rattle.cms_edf.proofs.tree_part.shared_tree.Goals.{After-len-2, After-path}
 
@@ -108,3 +109,21 @@ returns-clause-count c = (shared (goal.at.returns-clause-count c).After-path).lo
 
 pub returns-clause-fresh : goal.returns-clause-fresh
 returns-clause-fresh c = (shared (goal.at.returns-clause-fresh c).After-path).fresh
+
+pub returns-in_err-leaves-clause-keeps : goal.returns-in_err-leaves-clause-keeps
+returns-in_err-leaves-clause-keeps c = ok_at_err _ c.from_residual.result _ c.from_residual.ensures.1
+
+pub returns-in_err-leaves-clause-count : goal.returns-in_err-leaves-clause-count
+returns-in_err-leaves-clause-count c = ok_at_err _ c.from_residual.result _ c.from_residual.ensures.1
+
+pub returns-in_err-leaves-clause-fresh : goal.returns-in_err-leaves-clause-fresh
+returns-in_err-leaves-clause-fresh c = ok_at_err _ c.from_residual.result _ c.from_residual.ensures.1
+
+pub returns-in_err-pointers-clause-keeps : goal.returns-in_err-pointers-clause-keeps
+returns-in_err-pointers-clause-keeps c = ok_at_err _ c.from_residual-in_err-pointers.result _ c.from_residual-in_err-pointers.ensures.1
+
+pub returns-in_err-pointers-clause-count : goal.returns-in_err-pointers-clause-count
+returns-in_err-pointers-clause-count c = ok_at_err _ c.from_residual-in_err-pointers.result _ c.from_residual-in_err-pointers.ensures.1
+
+pub returns-in_err-pointers-clause-fresh : goal.returns-in_err-pointers-clause-fresh
+returns-in_err-pointers-clause-fresh c = ok_at_err _ c.from_residual-in_err-pointers.result _ c.from_residual-in_err-pointers.ensures.1

@@ -1,6 +1,7 @@
-use Rattle.std.proofs.Common.{ℕ, ap, sym, subst, length}
+use Rattle.std.proofs.Common.{ℕ, ap, sym, refl, subst, length, Ok, Err}
 use Rattle.cms_journal.specs.Journal.{HasBlocks, IsWritable}
 use Rattle.cms_held.specs.Opening.{Holding}
+use Rattle.cms_edf.specs.Doubts.{UpdatesSystems}
 use Rattle.cms_edf.proofs.held.Held.carry_edit.Goals as goal
 
 pub carry_out-requires : goal.carry_out-requires
@@ -11,3 +12,21 @@ carry_out-requires g c = record {
     writable = λ j told. subst (IsWritable j.units) (sym (ap (λ (h : Holding). h.volume.unit) c.self.view_is)) (c.requires.writable j told);
   };
 }
+
+pub returns-in-Ok-clause-counts : goal.returns-in-Ok-clause-counts
+returns-in-Ok-clause-counts g c = c.in-Ok.ensures.counts
+
+pub returns-in-Err-clause-kept : goal.returns-in-Err-clause-kept
+returns-in-Err-clause-kept g c = refl
+
+pub returns-in-Err-clause-counts : goal.returns-in-Err-clause-counts
+returns-in-Err-clause-counts g c = c.in-Err.ensures.counts
+
+pub returns-in-Ok-clause-updates : goal.returns-in-Ok-clause-updates
+returns-in-Ok-clause-updates g c =
+    subst (λ (h : Holding). UpdatesSystems (g.W.World.told c.args.world.now) (g.W.World.told c.carry_out.new.world) h.volume.unit c.args.systems (Ok tt)) c.self.view_is c.in-Ok.ensures.updates
+
+pub returns-in-Err-clause-updates : goal.returns-in-Err-clause-updates
+returns-in-Err-clause-updates g c =
+    subst (λ (h : Holding). UpdatesSystems (g.W.World.told c.args.world.now) (g.W.World.told c.carry_out.new.world) h.volume.unit c.args.systems (Err c.in-Err.doubt)) c.self.view_is
+    c.in-Err.ensures.updates
