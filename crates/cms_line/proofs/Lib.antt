@@ -7,3 +7,4 @@ pub mod ConsoleViews
 pub mod ConsoleReads
 pub mod TokenLemmas
 pub mod OptionLemmas
+pub mod TextsAdded
