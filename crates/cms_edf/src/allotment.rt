@@ -12,6 +12,7 @@ ghost use Rattle.cms_map.specs.Bits.{HasFixed, free_blocks, with_marked};
 ghost use Rattle.cms_map.specs.Touched.{AreTouched};
 ghost use Rattle.cms_tree.specs.Paths.{fresh_places};
 ghost use Rattle.cms_held.specs.Allotting.{KeepsTree, on_map};
+ghost use Rattle.cms_held.specs.Kept.{Keeps};
 ghost use Rattle.cms_held.specs.MapShares.{turned};
 ghost use Rattle.cms_held.specs.Renewing.{with_freed};
 ghost use Rattle.cms_edf.specs.Allotting.{IsAllottedFor, MapIsShared, SharesDirectory, given_back, need_of, numbers_in, numbers_made};
@@ -363,6 +364,46 @@ pub fn written_count(places: &WrittenPlaces) -> u32
     (places.leaves.len() + places.nodes.len()) as u32
 }
 
+// The new map, with its tree.
+#[derive(Drop)]
+struct NewMap {
+    shared: SharedPart,
+    map: Map,
+}
+
+// The new map, where so many of the lowest free blocks are taken for files and directory, and these are given back: its tree takes those
+// behind.
+fn take_map(
+    alloc: Global,
+    held: &Held,
+    used: u32,
+    lowest: &[u32],
+    released: &[u32],
+) -> Result<NewMap, AllocError>
+    requires kept { Keeps held.now.volume }
+    requires room { used + map_size held.now.volume.disk.bsize held.now.volume.label.blocks
+        ≤ length lowest.now }
+    requires few { length lowest.now < 2 ^ 32 }
+    requires enough { length lowest.now ≤ length (free_blocks held.now.volume.bits) }
+    requires lowest { lowest.now ≡ take (length lowest.now) (free_blocks held.now.volume.bits) }
+    ensures touched { IfOk result (λ m. AreTouched held.now.volume.disk.bsize
+        (on_map held.now.volume.label.blocks (turned (length lowest.now) held.now.volume.bits
+        (take used lowest.now) released.now held.now.volume.map)) m.shared.places.leaves) }
+    ensures shared { IfOk result (λ m. MapIsShared held.now.volume m.shared.places.leaves
+        (drop used lowest.now) m.shared.tree m.shared.places m.shared.left.items) }
+    ensures marks { IfOk result (λ m. m.map ≡ with_freed (released.now ++ m.shared.left.items)
+        (with_marked (take (used + (length m.shared.places.leaves
+        + length m.shared.places.nodes)) (free_blocks held.now.volume.bits))
+        held.now.volume.bits)) }
+{
+    let written = map_written(alloc, held, used, lowest, released)?;
+    let (_, behind) = lowest.split_at(used as usize);
+    let shared = share_map(alloc, held, written, behind)?;
+    let all = used + written_count(&shared.places);
+    let map = new_map(alloc, held, all, released, &shared.left)?;
+    Ok(NewMap { shared, map })
+}
+
 // The blocks of an update for which there is room.
 fn allot_all(
     alloc: Global,
@@ -389,19 +430,16 @@ fn allot_all(
     let (file, behind) = lowest.split_at(exchange.file as usize);
     let directory = share_directory(alloc, held, exchange.files, places, behind)?;
     let released = released_blocks(alloc, exchange, &directory.left)?;
-    let written = map_written(alloc, held, used, &lowest, &released)?;
-    let (_, behind) = lowest.split_at(used as usize);
-    let shared = share_map(alloc, held, written, behind)?;
-    let all = used + written_count(&shared.places);
-    let map = new_map(alloc, held, all, &released, &shared.left)?;
     let file = file.to_vec(alloc)?;
+    let new = take_map(alloc, held, used, &lowest, &released)?;
+    let shared = new.shared;
     Ok(Allotment {
         file,
         directory: directory.tree,
         directory_part: directory.places,
         map_tree: shared.tree,
         map_part: shared.places,
-        map,
+        map: new.map,
     })
 }
 

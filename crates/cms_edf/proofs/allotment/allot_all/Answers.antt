@@ -1,6 +1,5 @@
 -- The steps of an allotment, one behind the other.
-use Rattle.std.proofs.Common.{◌≡◌, ◌∙◌, ◌+◌, ◌-◌, ℕ, List, ◌++◌, length, take, drop, ap, subst, rules, arith, length-drop}
-use Rattle.cms_journal.proofs.Sizes.{block_bounds}
+use Rattle.std.proofs.Common.{◌≡◌, ◌∙◌, ◌+◌, ◌-◌, ◌≤◌, ℕ, List, ◌++◌, length, take, drop, refl, sym, ap, subst, rules, arith, length-drop}
 use Rattle.cms_map.specs.Bits.{free_blocks, with_marked}
 use Rattle.cms_map.specs.Touched.{AreTouched}
 use Rattle.cms_held.specs.Allotting.{on_map}
@@ -10,7 +9,6 @@ use Rattle.cms_held.specs.Opening.{Holding}
 use Rattle.cms_held.specs.Renewing.{with_freed}
 use Rattle.cms_edf.specs.Allotting.{MapIsShared, SharesDirectory, given_back}
 use Rattle.cms_edf.proofs.AllottedSteps.{Splits, allotted_so, splits_so}
-use Rattle.cms_edf.proofs.PartsReady.{map_may}
 use Rattle.cms_edf.proofs.Exits.{ok_at_err}
 use Rattle.cms_edf.proofs.allotment.allot_all.Goals as goal
 use Rattle.cms_edf.proofs.allotment.allot_all.Goals.{After-take_blocks}
@@ -47,66 +45,39 @@ share_directory-requires-clause-enough c =
     let back = ap (λ (l : List ℕ). length l) c.split_at.ensures.back ∙ length-drop c.args.exchange.now.file c.deref.result.now in
     omega (arith, needs, some, long, back)
 
-pub map_written-requires-clause-used : goal.map_written-requires-clause-used
-map_written-requires-clause-used c =
-    let s = splits (goal.at.map_written-requires-clause-used c).After-take_blocks in
+-- the blocks that were taken are so many of the lowest free ones
+long : (taken lowest : List ℕ) (need : ℕ) → taken ≡ lowest → length lowest ≡ need → length taken ≡ need
+long taken lowest need same is = ap (λ (l : List ℕ). length l) same ∙ is
+
+pub take_map-requires-clause-kept : goal.take_map-requires-clause-kept
+take_map-requires-clause-kept c = subst (λ (h : Holding). Keeps h.volume) c.held.view_is c.held.invariant.kept
+
+pub take_map-requires-clause-room : goal.take_map-requires-clause-room
+take_map-requires-clause-room c =
+    let s = splits (goal.at.take_map-requires-clause-room c).After-take_blocks in
     let needs = c.requires.need ∙ s.need_is in
     let some = s.some in
     let count = c.written_count.ensures in
-    let long : length c.deref-3.result.now ≡ c.args.need = ap (λ (l : List ℕ). length l) c.deref-3.ensures.value ∙ c.in_ok-lowest.ensures.long in
-    omega (arith, needs, some, count, long)
+    let many = long c.deref-3.result.now c.in_ok-lowest.field-0.blocks.items c.args.need c.deref-3.ensures.value c.in_ok-lowest.ensures.long in
+    omega (arith, needs, some, count, many)
 
-pub split_at-requires-2 : goal.split_at-requires-2
-split_at-requires-2 c =
-    let s = splits (goal.at.split_at-requires-2 c).After-take_blocks in
-    let needs = c.requires.need ∙ s.need_is in
-    let some = s.some in
-    let count = c.written_count.ensures in
-    let long : length c.deref-5.result.now ≡ c.args.need = ap (λ (l : List ℕ). length l) c.deref-5.ensures.value ∙ c.in_ok-lowest.ensures.long in
-    omega (arith, needs, some, count, long)
-
-pub share_map-requires-clause-may : goal.share_map-requires-clause-may
-share_map-requires-clause-may c =
-    let v = c.args.held.now.volume in
-    let kept = kept_at (goal.at.share_map-requires-clause-may c).After-take_blocks in
-    let low = (block_bounds v.disk.bsize kept.sized).0 in
-    let used = c.args.exchange.now.file + c.written_count.result - 1 in
-    let lowest = c.deref-3.result.now in
-    map_may v.disk.bsize v.label.blocks (length v.map.leaves) (turned (length lowest) v.bits (take used lowest) c.deref-4.result.now v.map) c.in_ok-written.written.items (omega (arith, low)) kept.map_is
-    c.in_ok-written.ensures.touched
-
-pub share_map-requires-clause-enough : goal.share_map-requires-clause-enough
-share_map-requires-clause-enough c =
-    let s = splits (goal.at.share_map-requires-clause-enough c).After-take_blocks in
-    let needs = c.requires.need ∙ s.need_is in
-    let some = s.some in
-    let count = c.written_count.ensures in
-    let used = c.args.exchange.now.file + c.written_count.result - 1 in
-    let long : length c.deref-5.result.now ≡ c.args.need = ap (λ (l : List ℕ). length l) c.deref-5.ensures.value ∙ c.in_ok-lowest.ensures.long in
-    let back = ap (λ (l : List ℕ). length l) c.split_at-2.ensures.back ∙ length-drop used c.deref-5.result.now in
-    omega (arith, needs, some, count, long, back)
-
-pub overflow_add-all : goal.overflow_add-all
-overflow_add-all c =
-    let s = splits (goal.at.overflow_add-all c).After-take_blocks in
-    let needs = c.requires.need ∙ s.need_is in
-    let some = s.some in
-    let count = c.written_count.ensures in
-    let more = c.written_count-2.ensures in
-    let few = c.in_ok-shared.ensures.few in
+pub take_map-requires-clause-few : goal.take_map-requires-clause-few
+take_map-requires-clause-few c =
+    let many = long c.deref-3.result.now c.in_ok-lowest.field-0.blocks.items c.args.need c.deref-3.ensures.value c.in_ok-lowest.ensures.long in
     let fits = c.ranges.need.fits in
-    omega (arith, needs, some, count, more, few, fits)
+    omega (arith, many, fits)
 
-pub new_map-requires : goal.new_map-requires
-new_map-requires c =
-    let s = splits (goal.at.new_map-requires c).After-take_blocks in
-    let needs = c.requires.need ∙ s.need_is in
-    let some = s.some in
-    let count = c.written_count.ensures in
-    let more = c.written_count-2.ensures in
-    let few = c.in_ok-shared.ensures.few in
-    let enough = c.requires.enough in
-    omega (arith, needs, some, count, more, few, enough)
+pub take_map-requires-clause-enough : goal.take_map-requires-clause-enough
+take_map-requires-clause-enough c =
+    let many = long c.deref-3.result.now c.in_ok-lowest.field-0.blocks.items c.args.need c.deref-3.ensures.value c.in_ok-lowest.ensures.long in
+    subst (λ (n : ℕ). n ≤ length (free_blocks c.args.held.now.volume.bits)) (sym many) c.requires.enough
+
+pub take_map-requires-clause-lowest : goal.take_map-requires-clause-lowest
+take_map-requires-clause-lowest c =
+    let many = long c.deref-3.result.now c.in_ok-lowest.field-0.blocks.items c.args.need c.deref-3.ensures.value c.in_ok-lowest.ensures.long in
+    c.deref-3.ensures.value
+    ∙ (c.in_ok-lowest.ensures.blocks
+    ∙ (ap (λ (h : Holding). take c.args.need (free_blocks h.volume.bits)) c.held.view_is ∙ ap (λ (n : ℕ). take n (free_blocks c.args.held.now.volume.bits)) (sym many)))
 
 pub returns : goal.returns
 returns c =
@@ -117,28 +88,25 @@ returns c =
     let s = splits_so v x asked kept c.requires.few c.requires.written c.requires.nodes c.requires.first c.requires.may in
     let lowest = c.in_ok-lowest.field-0.blocks.items in
     let released = c.in_ok-released.released.items in
-    let written = c.in_ok-written.written.items in
     let directory = c.in_ok-directory.directory in
-    let shared = c.in_ok-shared.shared in
+    let new = c.in_ok-new in
+    let shared = new.new.shared in
     let used = x.file + c.written_count.result - 1 in
-    let all = used + c.written_count-2.result in
+    let all = used + (length shared.places.leaves + length shared.places.nodes) in
     let low = c.in_ok-lowest.ensures.blocks ∙ ap (λ (h : Holding). take c.args.need (free_blocks h.volume.bits)) c.held.view_is in
     let copy : c.in_ok-file.file.items ≡ c.split_at.result.0.now = search rules in
     let file = copy ∙ (c.split_at.ensures.front ∙ ap (take x.file) c.deref.ensures.value) in
     let behind = c.split_at.ensures.back ∙ ap (drop x.file) c.deref.ensures.value in
-    let behind_all = c.split_at-2.ensures.back ∙ ap (drop used) c.deref-5.ensures.value in
     let lows = c.deref-3.ensures.value in
     let given = c.deref-4.ensures.value in
     let bits = with_marked (take all (free_blocks v.bits)) v.bits in
-    let back = c.deref-6.ensures.value in
-    let gone = c.deref-7.ensures.value in
-    allotted_so v x _ asked lowest released written directory.left.items shared.left.items c.args.need used all kept.directory_is kept.map_is c.requires.written c.requires.nodes s.some c.requires.need
-    c.requires.enough low (ap (λ (n : ℕ). x.file + n - 1) c.written_count.ensures) file
+    allotted_so v x _ asked lowest released shared.places.leaves directory.left.items shared.left.items c.args.need used all kept.directory_is kept.map_is c.requires.written c.requires.nodes s.some
+    c.requires.need c.requires.enough low (ap (λ (n : ℕ). x.file + n - 1) c.written_count.ensures) file
     (subst (λ (l : List ℕ). SharesDirectory v x.files l asked directory.tree directory.places directory.left.items) behind c.in_ok-directory.ensures)
     (c.in_ok-released.ensures ∙ ap (λ (l : List ℕ). given_back x ++ drop 1 l) c.deref-2.ensures.value)
-    (subst (λ (l : List ℕ). AreTouched v.disk.bsize l written) (λ i. on_map v.label.blocks (turned (length (lows i)) v.bits (take used (lows i)) (given i) v.map)) c.in_ok-written.ensures.touched)
-    (subst (λ (l : List ℕ). MapIsShared v written l shared.tree shared.places shared.left.items) behind_all c.in_ok-shared.ensures) (ap (λ (n : ℕ). used + n) c.written_count-2.ensures)
-    (c.in_ok-map.ensures ∙ (λ i. with_freed (back i ++ gone i) bits))
+    (subst (λ (l : List ℕ). AreTouched v.disk.bsize l shared.places.leaves) (λ i. on_map v.label.blocks (turned (length (lows i)) v.bits (take used (lows i)) (given i) v.map)) new.ensures.touched)
+    (subst (λ (l : List ℕ). MapIsShared v shared.places.leaves (drop used l) shared.tree shared.places shared.left.items) lows new.ensures.shared) refl
+    (new.ensures.marks ∙ (λ i. with_freed (given i ++ shared.left.items) bits))
 
 pub returns-in_err-lowest : goal.returns-in_err-lowest
 returns-in_err-lowest c = ok_at_err _ c.from_residual.result _ c.from_residual.ensures.1
@@ -149,14 +117,8 @@ returns-in_err-directory c = ok_at_err _ c.from_residual-in_err-directory.result
 pub returns-in_err-released : goal.returns-in_err-released
 returns-in_err-released c = ok_at_err _ c.from_residual-in_err-released.result _ c.from_residual-in_err-released.ensures.1
 
-pub returns-in_err-written : goal.returns-in_err-written
-returns-in_err-written c = ok_at_err _ c.from_residual-in_err-written.result _ c.from_residual-in_err-written.ensures.1
-
-pub returns-in_err-shared : goal.returns-in_err-shared
-returns-in_err-shared c = ok_at_err _ c.from_residual-in_err-shared.result _ c.from_residual-in_err-shared.ensures.1
-
-pub returns-in_err-map : goal.returns-in_err-map
-returns-in_err-map c = ok_at_err _ c.from_residual-in_err-map.result _ c.from_residual-in_err-map.ensures.1
-
 pub returns-in_err-file : goal.returns-in_err-file
 returns-in_err-file c = ok_at_err _ c.from_residual-in_err-file.result _ c.from_residual-in_err-file.ensures.1
+
+pub returns-in_err-new : goal.returns-in_err-new
+returns-in_err-new c = ok_at_err _ c.from_residual-in_err-new.result _ c.from_residual-in_err-new.ensures.1
