@@ -15,8 +15,8 @@ use Rattle.cms_held.specs.Opening.{HeldFile, HeldVolume}
 use Rattle.cms_edf.specs.Asking.{info_of}
 use Rattle.cms_edf.specs.declared.held.FileInfo.{FileInfo}
 use Rattle.cms_disk.specs.Cursors.{Reading}
-use Rattle.cms_disk.specs.Disks.{IsFileInfo}
-use Rattle.cms_disk.proofs.Finding.{FirstIn, kept_at}
+use Rattle.cms_disk.specs.Disks.{FirstIn, IsFileInfo}
+use Rattle.cms_disk.proofs.Finding.{kept_at}
 
 counted : (bsize : ℕ) (e : Entry) → EntryFits bsize e → (1 ≤ e.count) × (e.count ≤ most_records)
 unfolding counts_fit

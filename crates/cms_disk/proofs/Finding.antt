@@ -244,6 +244,3 @@ first_is v k number total bsize info leaves c at count size h first =
 pub ok_maps : {A E : Type 0} (P Q : A → Type 0) (r : Result A E) → ((x : A) → P x → Q x) → IfOk r P → IfOk r Q
 ok_maps P Q (Ok x) go h = go x h
 ok_maps P Q (Err e) go h = tt
-
-abbrev pub FirstIn : HeldVolume → ℕ → Reading → Type 0
-FirstIn v k c = (file : HeldFile) × (slice_get v.files k ≡ Some file) × IsFirst v.unit v.disk.count v.disk.bsize file.tree.leaves file.entry.format file.length file.entry.count c

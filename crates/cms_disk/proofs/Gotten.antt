@@ -23,11 +23,11 @@ use Rattle.cms_held.specs.Kept.{Keeps}
 use Rattle.cms_held.specs.Opening.{HeldFile, HeldVolume}
 use Rattle.cms_edf.specs.declared.held.FileInfo.{FileInfo}
 use Rattle.cms_disk.specs.Cursors.{Reading, HasLeft, IsFirst, fixed_of}
-use Rattle.cms_disk.specs.Disks.{Accessed, StandsIn, place_of}
+use Rattle.cms_disk.specs.Disks.{Accessed, FirstIn, StandsIn, place_of}
 use Rattle.cms_disk.specs.Getting.{Gathers, GetsFile, IsDataOf, data_length}
 use Rattle.cms_disk.specs.declared.fault.DiskFault.{DiskFault}
 use Rattle.cms_disk.specs.declared.fault.DiskFault.TheVariants.{Altered, Device, Memory, NotFound}
-use Rattle.cms_disk.proofs.Finding.{FirstIn, found, first_has, fixed_some, kept_at}
+use Rattle.cms_disk.proofs.Finding.{found, first_has, fixed_some, kept_at}
 
 longest_range : (size : ℕ) (rs : List (List ℕ)) → All (Fits V size) rs → 1 ≤ length rs → (1 ≤ longest rs) × (longest rs ≤ 65535)
 unfolding longest
@@ -154,6 +154,10 @@ gets_err name m e which sound = ⊎_elim
     rest)
     which
 
+-- there was no memory for it
+pub gets_starved : (name : Name) (m : Minidisk) (e : DiskFault) → e ≡ Memory → GetsFile name m (Err e)
+gets_starved name m e is = subst (λ (x : DiskFault). GetsFile name m (Err x)) (sym is) tt
+
 pub gets_none : (name : Name) (m : Minidisk) (e : DiskFault) → e ≡ NotFound → file_named name m.files ≡ None → GetsFile name m (Err e)
 gets_none name m e is none = subst (λ (x : DiskFault). GetsFile name m (Err x)) (sym is) none
 
@@ -168,3 +172,13 @@ fixed_is v k info c at first =
 pub fixed_length : (format : Format) (size most : ℕ) → format ≡ F → data_length format size most ≡ size
 fixed_length F size most is = refl
 fixed_length V size most is = absurd (cc)
+
+-- a fault of reading a file isn't that there is none
+pub is_there : (e : DiskFault) → (e ≡ Device) ⊎ (e ≡ Altered) ⊎ (e ≡ Memory) → e ≡ NotFound → ⊥
+is_there e which none = ⊎_elim
+    (λ (is : e ≡ Device). let no : Device ≡ NotFound = sym is ∙ none in absurd (cc no))
+    (λ (rest : (e ≡ Altered) ⊎ (e ≡ Memory)). ⊎_elim
+    (λ (is : e ≡ Altered). let no : Altered ≡ NotFound = sym is ∙ none in absurd (cc no))
+    (λ (is : e ≡ Memory). let no : Memory ≡ NotFound = sym is ∙ none in absurd (cc no))
+    rest)
+    which

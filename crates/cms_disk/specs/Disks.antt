@@ -146,6 +146,11 @@ place_of name v = position (same_name name) (names_in v.files)
 abbrev pub IsOthers : Name → Name → HeldVolume → Type 0
 IsOthers from to v = (from ≡ to → ⊥) × IsSome (place_of to v)
 
+-- the file at a place is read from its first record on
+abbrev pub FirstIn : HeldVolume → ℕ → Reading → Type 0
+FirstIn v place c = (file : HeldFile) × (slice_get v.files place ≡ Some file)
+    × IsFirst v.unit v.disk.count v.disk.bsize file.tree.leaves file.entry.format file.length file.entry.count c
+
 -- the file of a name is read from its first record on
 pub record StartsAt (name : Name) (v : HeldVolume) (c : Reading) : Type 0 where
   pub place : ℕ

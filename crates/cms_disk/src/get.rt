@@ -1,8 +1,9 @@
 // A file that is read whole.
-ghost use Rattle.std.specs.Prelude.{◌≡◌, ◌⊎◌, ◌≤◌, ◌++◌, ℕ, List, [], ◌∷◌, length, Some, None, Err, IfOk, IfErr, OnOk, OnErr, IsSome};
+ghost use Rattle.std.specs.Prelude.{◌≡◌, ◌⊎◌, ◌<◌, ◌≤◌, ◌++◌, ℕ, List, [], ◌∷◌, length, Some, None, Err, IfOk, IfErr, OnOk, OnErr, IsSome};
 ghost use Rattle.std.specs.Option.{ForSome};
 ghost use Rattle.cms_journal.specs.Journal.{HasBlocks, contents_of};
 ghost use Rattle.cms_fields.specs.Limits.{longest_record};
+ghost use Rattle.cms_names.specs.declared.name.Name as names;
 ghost use Rattle.cms_model.specs.Records.{IsValid, stored};
 ghost use Rattle.cms_model.specs.Trees.{image_of};
 ghost use Rattle.cms_edf.specs.OpeningSteps.{OfImage};
@@ -105,8 +106,30 @@ impl Minidisk {
         ensures reads { OnlyReads (seen W.World world.old) (seen W.World world.new) Device result }
     {
         let place = self.place(name)?;
+        self.get_at(alloc, world, place)
+    }
+
+    /// The records of the file at a place, from 0 below the number of files, as they are stored. The faults are those of `get` but
+    /// `NotFound`.
+    pub fn get_at<W: World>(
+        &self,
+        alloc: Global,
+        world: &mut W,
+        place: u32,
+    ) -> Result<FileData, DiskFault>
+        requires place { place < length self.now.volume.files }
+        requires blocks { ForSome (W.told world.old) (λ j. IsReadable j self.now) }
+        ensures valid { IfOk result IsValid }
+        ensures like { IfOk result (λ d. (name : names.Name)
+            → place_of name self.now.volume ≡ Some place → IsLike self.now.volume name d) }
+        ensures file { (name : names.Name) → place_of name self.now.volume ≡ Some place
+            → OfImage (W.told world.old) self.now.volume.unit
+            (λ image. GetsIn image self.now name result) }
+        ensures fault { IfErr result (λ e. (e ≡ Device) ⊎ (e ≡ Altered) ⊎ (e ≡ Memory)) }
+        ensures reads { OnlyReads (seen W.World world.old) (seen W.World world.new) Device result }
+    {
         let info = self.info(place);
-        let mut cursor = self.file(alloc, place)?;
+        let mut cursor = self.cursor_at(alloc, place)?;
         let gathered = gather(alloc, world, &mut cursor, info.format)?;
         Ok(FileData {
             format: info.format,

@@ -4,16 +4,15 @@ ghost use Rattle.std.specs.Option.{ForSome};
 ghost use Rattle.cms_world.specs.Seen.{ChangesUnits, OnlyReads, seen};
 ghost use Rattle.cms_journal.specs.Journal.{HasBlocks, contents_of};
 ghost use Rattle.cms_fields.specs.Limits.{longest_record};
+ghost use Rattle.cms_names.specs.declared.name.Name as names;
 ghost use Rattle.cms_model.specs.LawsSizes.{IsWhole};
 ghost use Rattle.cms_model.specs.LawsUpdates.{now};
 ghost use Rattle.cms_model.specs.Trees.{image_of};
 ghost use Rattle.cms_model.specs.declared.fault.OpenFault.TheVariants as failed;
 ghost use Rattle.cms_edf.specs.Asking.{infos_in, space_of, stored_in};
 ghost use Rattle.cms_held.specs.Kept.{IsSized, Keeps};
-ghost use Rattle.cms_held.specs.Opening.{HeldFile};
 ghost use Rattle.cms_edf.specs.OpeningSteps.{OfImage};
-ghost use Rattle.cms_disk.specs.Cursors.{IsFirst};
-ghost use Rattle.cms_disk.specs.Disks.{AnswersAccess, HasNone, HasStored, IsDevices, IsFileInfo, IsLeft, IsOn, IsQuiet, OpensIn, StartsAt, disk_on, place_of, synced, told_with};
+ghost use Rattle.cms_disk.specs.Disks.{AnswersAccess, FirstIn, HasNone, HasStored, IsDevices, IsFileInfo, IsLeft, IsOn, IsQuiet, OpensIn, StartsAt, disk_on, place_of, synced, told_with};
 ghost use Rattle.cms_disk.specs.declared.fault.AccessFault.TheVariants.{Open, Sync};
 ghost use Rattle.cms_disk.specs.declared.fault.DiskFault.TheVariants.{Memory, NotFound};
 
@@ -176,7 +175,23 @@ impl Minidisk {
         ensures fault { IfErr result (λ e. (e ≡ NotFound) ⊎ (e ≡ Memory)) }
     {
         let place = self.place(name)?;
-        self.file(alloc, place)
+        self.cursor_at(alloc, place)
+    }
+
+    /// Before the first record of the file at a place, from 0 below the number of files, of which none is longer than a record may be; else
+    /// there is no memory.
+    pub fn cursor_at(&self, alloc: Global, place: u32) -> Result<Cursor, DiskFault>
+        requires { place < length self.now.volume.files }
+        ensures first { IfOk result (FirstIn self.now.volume place) }
+        ensures records { IfOk result (λ c. (name : names.Name)
+            → place_of name self.now.volume ≡ Some place → OpensIn self.now name c) }
+        ensures short { IfOk result (λ c. c.begun.longest ≤ longest_record) }
+        ensures kept { Keeps self.now.volume }
+        ensures fault { IfErr result (λ e. e ≡ Memory) }
+    {
+        let info = self.held.info(place);
+        let leaves = self.held.leaves(place);
+        Cursor::new(alloc, self.unit.unit, self.unit.bsize, &info, leaves)
     }
 
     /// The place of the file of a name.
@@ -192,21 +207,6 @@ impl Minidisk {
             Some(place) => Ok(place),
             None => Err(DiskFault::NotFound),
         }
-    }
-
-    /// Before the first record of the file at a place.
-    pub(crate) fn file(&self, alloc: Global, place: u32) -> Result<Cursor, DiskFault>
-        requires { place < length self.now.volume.files }
-        ensures first { IfOk result (λ c. (file : HeldFile)
-            × (slice_get self.now.volume.files place ≡ Some file)
-            × IsFirst self.now.volume.unit self.now.volume.disk.count self.now.volume.disk.bsize
-            file.tree.leaves
-            file.entry.format file.length file.entry.count c) }
-        ensures fault { IfErr result (λ e. e ≡ Memory) }
-    {
-        let info = self.held.info(place);
-        let leaves = self.held.leaves(place);
-        Cursor::new(alloc, self.unit.unit, self.unit.bsize, &info, leaves)
     }
 }
 
