@@ -6,9 +6,11 @@ use Rattle.cms_model.specs.Minidisks.{File, same_name}
 use Rattle.cms_edf.specs.declared.held.FileInfo.{FileInfo}
 use Rattle.cms_disk.specs.Disks.{IsFileInfo}
 use Rattle.cms_search.specs.Machine.{Machine}
+use Rattle.cms_search.specs.Searches.{found_at}
 use Rattle.cms_search.specs.Tables.{Accesses}
+use Rattle.cms_search.specs.declared.search.Found.{Found}
 use Rattle.cms_files.specs.Files.{UnitFile}
-use Rattle.cms_files.specs.Told.{IsInfo, info_named}
+use Rattle.cms_files.specs.Told.{IsInfo, info_named, place_named}
 use Rattle.cms_copyfile.specs.Copyfile.{Copying, copying_of, file_at, letter_for, reads_to_end}
 use Rattle.cms_copyfile.specs.Outputs.{extended, form_for, number_for, plan_of}
 use Rattle.cms_copyfile.specs.declared.line.CopyLine.{CopyLine}
@@ -20,12 +22,18 @@ use Rattle.cms_copyfile.specs.declared.output.FileForm.{FileForm}
 
 -- it is a file of the table's, with what is told of it and of the file that has the output's name, as a file may have it
 pub record IsFileCopy (t : Accesses) (line : CopyLine) (c : FileCopy) : Type 0 where
+  pub place : Some c.place ≡ place_named t c.found.letter c.found.name
   pub input : Some c.input ≡ info_named t c.found.letter c.found.name
   pub letter : c.letter ≡ letter_for line.files.output.mode c.found.letter
   pub name : c.name ≡ equal_signs c.found.name line.files.output.name
+  pub there_place : c.there_place ≡ place_named t c.letter c.name
   pub there : c.there ≡ info_named t c.letter c.name
   pub sound : IsFileInfo c.input
   pub sound_there : IfSome c.there IsFileInfo
+
+-- where its disk has the file that is copied
+abbrev pub input_at : FileCopy → Found
+input_at c = found_at c.found.letter c.place
 
 -- the number that the copy gets
 abbrev pub copy_number : CopyLine → FileCopy → ℕ

@@ -1,10 +1,12 @@
 // A file that is copied, and where its copy goes.
 ghost use Rattle.std.specs.Prelude.{◌≡◌, nat_lt, None, Err, IfSome};
+ghost use Rattle.std.specs.Option.{option_map};
+ghost use Rattle.cms_disk.specs.Disks.{IsFileInfo};
 ghost use Rattle.cms_search.specs.Machine.{Machine};
 ghost use Rattle.cms_search.specs.Shows.{Shows};
 ghost use Rattle.cms_search.specs.declared.fault.SearchFault.TheVariants.{NotFound};
 ghost use Rattle.cms_copyfile.specs.Copyfile as spec;
-ghost use Rattle.cms_copyfile.specs.FileCopies.{IsFileCopy, copy_number, form_in, form_into, is_own_output, may_erase_input};
+ghost use Rattle.cms_copyfile.specs.FileCopies.{IsFileCopy, copy_number, form_in, form_into, input_at, is_own_output, may_erase_input};
 ghost use Rattle.cms_copyfile.specs.Outputs.{extended};
 
 use crate::line::{CopyLine, Existing};
@@ -12,24 +14,49 @@ use crate::named_files::NamedFile;
 use crate::output::{FileForm, form_for, number_for, wanted_of};
 use crate::shown::FileShown;
 use cms_disk::FileInfo;
-use cms_files::info_named;
+use cms_files::{ToldFile, told_named};
 use cms_names::{Name, equal_signs};
 use cms_operands::WriteMode;
-use cms_search::Table;
+use cms_search::{Found, Table};
 
 /// A file that is copied, and where its copy goes.
 #[derive(Clone, Copy)]
 pub struct FileCopy {
     /// the file, as a search found it
     pub found: NamedFile,
+    /// its place on its disk, from 0
+    pub place: u32,
     /// what its disk tells of it
     pub input: FileInfo,
     /// the letter of the output's disk, A is 0
     pub letter: u8,
     /// the output's name
     pub name: Name,
-    /// the file of that name on that disk, if it is there already
+    /// the place of the file of that name on that disk, if it is there already
+    pub there_place: Option<u32>,
+    /// what is told of that file
     pub there: Option<FileInfo>,
+}
+
+// The place of a file that may be there.
+fn place_in(file: &Option<ToldFile>) -> Option<u32>
+    ensures { result ≡ option_map (λ f. f.place) file.now }
+{
+    match file {
+        Some(file) => Some(file.place),
+        None => None,
+    }
+}
+
+// What is told of a file that may be there.
+fn info_in(file: &Option<ToldFile>) -> Option<FileInfo>
+    ensures told { result ≡ option_map (λ f. f.info) file.now }
+    ensures sound { IfSome file.now (λ f. IsFileInfo f.info) → IfSome result IsFileInfo }
+{
+    match file {
+        Some(file) => Some(file.info),
+        None => None,
+    }
 }
 
 // The output's letter, or that of the disk on which the input stands.
@@ -60,16 +87,29 @@ impl FileCopy {
         ensures none { result ≡ None → (s : Machine) → Shows table.now s
             → spec.file_at s found.now ≡ Err NotFound }
     {
-        let input = info_named(table, found.letter, &found.name)?;
+        let input = told_named(table, found.letter, &found.name)?;
         let letter = letter_for(line.files.output.mode, found.letter);
         let name = equal_signs(&found.name, &line.files.output.name);
+        let there = told_named(table, letter, &name);
         Some(FileCopy {
             found: *found,
-            input,
+            place: input.place,
+            input: input.info,
             letter,
             name,
-            there: info_named(table, letter, &name),
+            there_place: place_in(&there),
+            there: info_in(&there),
         })
+    }
+
+    /// Where its disk has it.
+    pub fn at(&self) -> Found
+        ensures { result ≡ input_at self.now }
+    {
+        Found {
+            letter: self.found.letter,
+            place: self.place,
+        }
     }
 
     /// The file that has the output's name, where the copies are added to it.

@@ -11,7 +11,7 @@ ghost use Rattle.cms_disk.specs.Cursors.{HasLeft};
 ghost use Rattle.cms_disk.specs.Disks.{IsFileInfo};
 ghost use Rattle.cms_disk.specs.declared.fault.DiskFault.TheVariants.{Altered, Device};
 ghost use Rattle.cms_files.specs.Files.{UnitFile};
-ghost use Rattle.cms_files.specs.Told.{info_named};
+ghost use Rattle.cms_files.specs.Told.{info_named, place_named};
 ghost use Rattle.cms_world.specs.Seen.{OnlyReads, seen};
 ghost use Rattle.cms_copyfile.specs.Measures.{IsMeasure, measured};
 ghost use Rattle.cms_copyfile.specs.Outputs.{IsPlan, copies_in};
@@ -116,6 +116,8 @@ pub(crate) fn measure_input<W: World>(
     requires room { longest_fit plan.now.style.fit cursor.old.begun.longest
         ≤ vec_capacity buffer.old }
     requires sound { IsFileInfo file.now.input }
+    requires place { Some file.now.place
+        ≡ place_named table.now file.now.found.letter file.now.found.name }
     requires told { Some file.now.input
         ≡ info_named table.now file.now.found.letter file.now.found.name }
     requires left { cursor.old.left ≡ file.now.input.count }

@@ -7,7 +7,7 @@ ghost use Rattle.cms_disk.specs.Disks.{IsFileInfo};
 ghost use Rattle.cms_search.specs.Machine.{Machine};
 ghost use Rattle.cms_search.specs.Shows.{Shows};
 ghost use Rattle.cms_files.specs.Files.{UnitFile};
-ghost use Rattle.cms_files.specs.Told.{info_named};
+ghost use Rattle.cms_files.specs.Told.{info_named, place_named};
 ghost use Rattle.cms_copyfile.specs.Measures.{IsMeasure, measured};
 ghost use Rattle.cms_copyfile.specs.Outputs.{IsPlan, copies_in};
 ghost use Rattle.cms_copyfile.specs.Records.{copied, folded, truncated_if};
@@ -19,7 +19,7 @@ use crate::measure::{Measure, head_bytes};
 use crate::output::CopyPlan;
 use crate::record::{Fit, RecordStyle};
 use cms_disk::FileInfo;
-use cms_files::stored_named;
+use cms_files::stored_found;
 use cms_names::Format;
 use cms_search::Table;
 
@@ -110,6 +110,8 @@ fn stays_varying(info: &FileInfo, plan: &CopyPlan) -> bool
 // The copies of a file of varying records that are all as long as its records: they fill as many bytes.
 fn measure_whole(table: &Table, file: &FileCopy, plan: &CopyPlan) -> Option<Measure>
     requires sound { IsFileInfo file.now.input }
+    requires place { Some file.now.place
+        ≡ place_named table.now file.now.found.letter file.now.found.name }
     requires told { Some file.now.input
         ≡ info_named table.now file.now.found.letter file.now.found.name }
     ensures measured { IfSome result
@@ -124,7 +126,7 @@ fn measure_whole(table: &Table, file: &FileCopy, plan: &CopyPlan) -> Option<Meas
     if !stays_varying(info, plan) || !copies_all(info, plan) || !keeps_lengths(info, &plan.style) {
         return None;
     }
-    let bytes = stored_named(table, file.found.letter, &file.found.name)?;
+    let bytes = stored_found(table, file.at())?;
     Some(Measure {
         count: info.count,
         bytes: u64::from(bytes),
@@ -136,6 +138,8 @@ fn measure_whole(table: &Table, file: &FileCopy, plan: &CopyPlan) -> Option<Meas
 // lengths, or some of them are copied.
 pub(crate) fn measure_told(table: &Table, file: &FileCopy, plan: &CopyPlan) -> Option<Measure>
     requires sound { IsFileInfo file.now.input }
+    requires place { Some file.now.place
+        ≡ place_named table.now file.now.found.letter file.now.found.name }
     requires told { Some file.now.input
         ≡ info_named table.now file.now.found.letter file.now.found.name }
     ensures measured { IfSome result (λ m. (s : Machine) (x : UnitFile) → Shows table.now s

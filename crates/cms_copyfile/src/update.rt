@@ -40,8 +40,8 @@ use crate::refusals::stop_unread;
 use crate::shape::{shape_behind, shape_of};
 use cms_disk::{DraftShape, FileInfo};
 use cms_fields::{LONGEST_RECORD, Stamp};
-use cms_files::{Updated, stored_named};
-use cms_search::{End, State, Table};
+use cms_files::{Updated, stored_found};
+use cms_search::{End, Found, State, Table};
 use cms_world::World;
 use std::alloc::Global;
 
@@ -61,6 +61,8 @@ fn put_copied<W: World>(
     requires moment { is_moment state.old.moment ≡ true }
     requires writing { writing (item_at (letters_of state.old.table) file.now.letter)
         file.now.letter ≡ Ok tt }
+    requires place { Some file.now.place
+        ≡ named.place_named state.old.table file.now.found.letter file.now.found.name }
     requires told { Some file.now.input
         ≡ named.info_named state.old.table file.now.found.letter file.now.found.name }
     requires fits { ForSome (item_at state.old.table.seats file.now.letter)
@@ -159,6 +161,8 @@ fn extended_shape(
     stamp: Stamp,
     more: &Measure,
 ) -> DraftShape
+    requires place { file.now.there_place
+        ≡ named.place_named table.now file.now.letter file.now.name }
     requires there { Some own.now ≡ named.info_named table.now file.now.letter file.now.name }
     requires own { IsFileInfo own.now }
     requires stamp { is_stamp stamp ≡ true }
@@ -171,7 +175,11 @@ fn extended_shape(
     ensures fits { ForSome (item_at table.now.seats file.now.letter)
         (λ s. MayExtend s.disk.volume file.now.name result) }
 {
-    let stored = stored_named(table, file.letter, &file.name).unwrap();
+    let there = Found {
+        letter: file.letter,
+        place: file.there_place.unwrap(),
+    };
+    let stored = stored_found(table, there).unwrap();
     shape_behind(own, stored, stamp, more)
 }
 

@@ -1,12 +1,14 @@
 -- DISKR takes the reading that the disk of a letter keeps, hands out records, and leaves another reading.
-use Rattle.std.proofs.Common.{◌≡◌, ◌⊎◌, ◌∙◌, ◌+◌, ◌-◌, ◌≤◌, ℕ, List, [], Bool, true, false, Option, Some, None, Result, Ok, Err, inl, inr, refl, sym, ap, subst, pos, arith}
+use Rattle.std.proofs.Common.{◌≡◌, ◌⊎◌, ◌∙◌, ◌+◌, ◌-◌, ◌≤◌, ℕ, List, [], Bool, true, false, Option, Some, None, Result, Ok, Err, inl, inr, slice_get, refl, sym, ap, subst, pos, arith}
 use Rattle.std.specs.Prelude.{◌==◌, IfOk}
 use Rattle.std.specs.Option.{ForSome, option_and_then}
 use Rattle.std.proofs.lemmas.Option.{same_Some}
 use Rattle.cms_names.specs.declared.name.Name.{Name}
 use Rattle.cms_machine.specs.Acts.{Act, saying, typed_line}
 use Rattle.cms_machine.specs.Slots.{Slot}
+use Rattle.cms_edf.specs.Asking.{infos_in}
 use Rattle.cms_disk.specs.Cursors.{Reading}
+use Rattle.cms_disk.specs.Disks.{place_of}
 use Rattle.cms_disk.specs.declared.fault.DiskFault.{DiskFault}
 use Rattle.cms_disk.specs.declared.fault.DiskFault.TheVariants as failed
 use Rattle.cms_line.specs.Messages.{message_text}
@@ -30,6 +32,7 @@ use Rattle.cms_search.proofs.DiskReadings.{acts_given, comes_given, comes_readin
 use Rattle.cms_search.proofs.HandedRecords.{Hands, caused, later_read, only_read, reads_then}
 use Rattle.cms_search.proofs.Seats.{item_here, item_within, seat_as, table_reading, with_reading_is}
 use Rattle.cms_files.specs.OpenFiles.{IsOpened}
+use Rattle.cms_files.specs.Told.{info_named}
 use Rattle.cms_files.specs.declared.open_files.OpenFile.{OpenFile}
 use Rattle.cms_files.proofs.OpenedFiles.{opened_open}
 use Rattle.cms_execio.specs.Diskr.{in_front, lines_on, read_on, stack_read, taken_of}
@@ -51,6 +54,24 @@ opened_reading t t' n r name file o is =
       count = o.count;
       unread = o.unread;
     })
+
+-- and the same is told of it
+info_seated : (t : Accesses) (n : ℕ) (name : Name) (s : Seated) → item_at t.seats n ≡ Some s
+    → info_named t n name ≡ option_and_then (λ (k : ℕ). slice_get (infos_in s.disk.volume) k) (place_of name s.disk.volume)
+info_seated t n name s there =
+    ap (λ (x : Option Seated). option_and_then (λ (y : Seated). option_and_then (λ (k : ℕ). slice_get (infos_in y.disk.volume) k) (place_of name y.disk.volume)) x) there
+
+pub told_reading : (t t' : Accesses) (n : ℕ) (r : Option KeptReading) (name : Name) (file : OpenFile) → IsOpened t n name file → t' ≡ with_reading n r t → info_named t' n name ≡ info_named t n name
+told_reading t t' n r name file o is =
+    let table : t' ≡ table_reading t n o.seat r = is ∙ with_reading_is t n o.seat r o.there in
+    let seat = seat_as o.seat o.seat.disk r in
+    ap (λ (x : Accesses). info_named x n name) table
+    ∙ (info_seated (table_reading t n o.seat r) n name seat (item_here t.seats n (Some seat) (item_within t.seats n o.seat o.there)) ∙ sym (info_seated t n name o.seat o.there))
+
+pub told_behind : (t t' : Accesses) (n : ℕ) (name : Name) (file : OpenFile) (count : ℕ) (drops : Bool) (c : Reading) → IsOpened t n name file → t' ≡ table_behind t n name count drops c
+    → info_named t' n name ≡ info_named t n name
+told_behind t t' n name file count true c o is = ap (λ (x : Accesses). info_named x n name) is
+told_behind t t' n name file count false c o is = told_reading t t' n (Some (reading_behind name count c)) name file o is
 
 -- a command that ends so behind a file that couldn't be read
 pub unread_behind : (t : Accesses) (n : ℕ) (name : Name) (count : ℕ) (why : DiskFault) (x : declared.Course) → (why ≡ failed.Device) ⊎ (why ≡ failed.Altered)

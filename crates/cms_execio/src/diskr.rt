@@ -1,5 +1,5 @@
 // DISKR: records of a file are stacked.
-ghost use Rattle.std.specs.Prelude.{◌≡◌, ◌+◌, ◌-◌, ◌++◌, ◌==◌, ◌&&◌, ◌<◌, ◌≤◌, ◌^◌, IfOk, IsSome, List, Ok, OnOk, false, length, nat_lt, pos, true};
+ghost use Rattle.std.specs.Prelude.{◌≡◌, ◌+◌, ◌-◌, ◌++◌, ◌==◌, ◌&&◌, ◌<◌, ◌≤◌, ◌^◌, IfOk, IsSome, List, Ok, OnOk, Some, false, length, nat_lt, pos, true};
 ghost use Rattle.std.specs.Option.{ForSome};
 ghost use Rattle.cms_disk.specs.Disks.{place_of};
 ghost use Rattle.cms_fields.specs.Moments.{is_moment};
@@ -11,6 +11,7 @@ ghost use Rattle.cms_search.specs.Calls.{Acts, IsUsable, course_of, machine_of, 
 ghost use Rattle.cms_files.specs.Files.{file_found};
 ghost use Rattle.cms_files.specs.OpenFiles.{IsOpened};
 ghost use Rattle.cms_files.specs.StackedLines.{StacksSome};
+ghost use Rattle.cms_files.specs.Told.{IsFoundAt, info_named};
 ghost use Rattle.cms_execio.specs.Diskr as spec;
 ghost use Rattle.cms_execio.specs.Diskr.{StacksRead, lines_on, lines_read};
 ghost use Rattle.cms_execio.specs.Starts.{GoesOnBehind};
@@ -19,12 +20,14 @@ use crate::line::ReadLine;
 use crate::place::{code_of_taken, go_on, in_front, taken_of};
 use crate::record::stacked_line;
 use crate::start::{keep_behind, start_at};
+use cms_disk::FileInfo;
 use cms_edf::Change;
 use cms_files::{
-    OpenFile, Updated, is_consumed, open_file, refuse_unfound, stack_lines, update_disk,
+    OpenFile, Updated, info_found, is_consumed, open_found, refuse_unfound, stack_lines,
+    update_disk,
 };
 use cms_line::{Lines, Tokens};
-use cms_search::{Course, End, Places, State, refuse_unread};
+use cms_search::{Course, End, Found, Places, State, refuse_unread};
 use cms_world::World;
 use std::alloc::{AllocError, Global};
 
@@ -125,19 +128,22 @@ fn erase_read<W: World>(
     }
 }
 
-// Ends the command behind the lines that were stacked: a file whose last record is among them may be erased; else reading goes on behind the
-// records.
+// Ends the command behind the lines that were stacked: a file, of which this is told, whose last record is among them may be erased; else
+// reading goes on behind the records.
 fn end_read<W: World>(
     alloc: Global,
     world: &mut W,
     state: &mut State,
     letter: u8,
+    info: &FileInfo,
     line: &ReadLine,
     vdev: u16,
     span: Span,
 ) -> Result<Course, End>
     requires usable { IsUsable (spot W.World world.old state.old) }
     requires moment { is_moment state.old.moment ≡ true }
+    requires told { Some info.now
+        ≡ info_named state.old.table letter line.now.range.input.name }
     requires fits { span.front + span.taken < 2 ^ 32 }
     ensures acts { Acts (spot W.World world.old state.old) (spot W.World world.new state.new)
         (λ units. spec.read_done line.now letter vdev span.last span.front span.taken
@@ -150,7 +156,7 @@ fn end_read<W: World>(
     } }
 {
     let name = &line.range.input.name;
-    if span.last && is_consumed(&state.table, letter, name) {
+    if span.last && is_consumed(&state.table, letter, info) {
         return erase_read(alloc, world, state, letter, line, span.taken);
     }
     let behind = span.front + span.taken;
@@ -158,12 +164,13 @@ fn end_read<W: World>(
     Ok(course_behind(line.range.count, span.taken))
 }
 
-// Stacks the lines of records of a file on the disk of a letter, all or none, and ends the command.
+// Stacks the lines of records of a file on the disk of a letter, of which this is told, all or none, and ends the command.
 fn stack_read<W: World>(
     alloc: Global,
     world: &mut W,
     state: &mut State,
     letter: u8,
+    info: &FileInfo,
     line: &ReadLine,
     vdev: u16,
     span: Span,
@@ -171,6 +178,8 @@ fn stack_read<W: World>(
 ) -> Result<Course, End>
     requires usable { IsUsable (spot W.World world.old state.old) }
     requires moment { is_moment state.old.moment ≡ true }
+    requires told { Some info.now
+        ≡ info_named state.old.table letter line.now.range.input.name }
     requires fits { span.front + span.taken < 2 ^ 32 }
     ensures acts { Acts (spot W.World world.old state.old) (spot W.World world.new state.new)
         (λ units. spec.stack_read
@@ -189,7 +198,7 @@ fn stack_read<W: World>(
     if !went_well(course) {
         return Ok(course);
     }
-    end_read(alloc, world, state, letter, line, vdev, span)
+    end_read(alloc, world, state, letter, info, line, vdev, span)
 }
 
 // Stacks some records of a file on the disk of a letter, once all of them were handed out. The reading that the disk keeps goes on, where it
@@ -199,12 +208,15 @@ fn read_span<W: World>(
     world: &mut W,
     state: &mut State,
     letter: u8,
+    info: &FileInfo,
     line: &ReadLine,
     file: OpenFile,
     span: Span,
 ) -> Result<Course, End>
     requires usable { IsUsable (spot W.World world.old state.old) }
     requires moment { is_moment state.old.moment ≡ true }
+    requires told { Some info.now
+        ≡ info_named state.old.table letter line.now.range.input.name }
     requires opened { IsOpened state.old.table letter line.now.range.input.name file }
     requires front { span.front ≡ spec.in_front state.old.places line.now.range file.vdev }
     requires taken { span.taken ≡ spec.taken_of line.now.range.count (file.count - span.front) }
@@ -242,7 +254,7 @@ fn read_span<W: World>(
     }
     let drops = span.last || line.style.forgets;
     keep_behind(&mut state.table, letter, name, end, drops, cursor);
-    stack_read(alloc, world, state, letter, line, vdev, span, &lines)
+    stack_read(alloc, world, state, letter, info, line, vdev, span, &lines)
 }
 
 // Stacks the records of a file on the disk of a letter that the line says; where there are none of them the file isn't read.
@@ -251,11 +263,14 @@ fn read_records<W: World>(
     world: &mut W,
     state: &mut State,
     letter: u8,
+    info: &FileInfo,
     line: &ReadLine,
     file: OpenFile,
 ) -> Result<Course, End>
     requires usable { IsUsable (spot W.World world.old state.old) }
     requires moment { is_moment state.old.moment ≡ true }
+    requires told { Some info.now
+        ≡ info_named state.old.table letter line.now.range.input.name }
     requires opened { IsOpened state.old.table letter line.now.range.input.name file }
     ensures acts { (words : List Token)
         → Acts (spot W.World world.old state.old) (spot W.World world.new state.new)
@@ -272,37 +287,39 @@ fn read_records<W: World>(
     let span = Span::of(&state.places, line, &file);
     if span.taken == 0 {
         let none = Lines::new(alloc);
-        return stack_read(alloc, world, state, letter, line, file.vdev, span, &none);
+        return stack_read(
+            alloc, world, state, letter, info, line, file.vdev, span, &none,
+        );
     }
-    read_span(alloc, world, state, letter, line, file, span)
+    read_span(alloc, world, state, letter, info, line, file, span)
 }
 
-// Reads the file of the line's name on the disk of a letter.
+// Reads the file of the line's name, which a search found.
 fn read_on<W: World>(
     alloc: Global,
     world: &mut W,
     state: &mut State,
-    words: &Tokens,
     line: &ReadLine,
-    letter: u8,
+    found: Found,
 ) -> Result<Course, End>
     requires usable { IsUsable (spot W.World world.old state.old) }
     requires moment { is_moment state.old.moment ≡ true }
-    ensures acts { Acts (spot W.World world.old state.old) (spot W.World world.new state.new)
-        (λ units. spec.read_on (machine_of state.old units) words.now line.now letter) result
+    requires found { IsFoundAt state.old.table found line.now.range.input.name }
+    ensures acts { (words : List Token)
+        → Acts (spot W.World world.old state.old) (spot W.World world.new state.new)
+        (λ units. spec.read_on (machine_of state.old units) words line.now found.letter) result
         (course_of state.new) }
     ensures stack { StacksRead (spot W.World world.old state.old) state.new line.now
-        (λ s. lines_on s line.now letter) }
+        (λ s. lines_on s line.now found.letter) }
     ensures kept { state.new ≡ record state.old {
       table = state.new.table;
       stack = state.new.stack;
       places = state.new.places;
     } }
 {
-    match open_file(alloc, &state.table, letter, &line.range.input.name) {
-        Ok(file) => read_records(alloc, world, state, letter, line, file),
-        Err(fault) => refuse_unfound(alloc, world, words, 3, fault),
-    }
+    let info = info_found(&state.table, found).unwrap();
+    let file = open_found(alloc, &state.table, found, &info)?;
+    read_records(alloc, world, state, found.letter, &info, line, file)
 }
 
 /// EXECIO's DISKR: records of a file are stacked, all that are wanted or none. A file of mode number 3 is erased once its last record was
@@ -329,7 +346,7 @@ pub fn disk_read<W: World>(
 {
     let input = &line.range.input;
     match state.table.find_read(&input.name, &input.mode) {
-        Ok(found) => read_on(alloc, world, state, words, line, found.letter),
+        Ok(found) => read_on(alloc, world, state, line, found),
         Err(fault) => refuse_unfound(alloc, world, words, 3, fault),
     }
 }

@@ -6,12 +6,12 @@ ghost use Rattle.cms_operands.specs.Choices.{AnswersLine};
 ghost use Rattle.cms_search.specs.Calls.{Acts, Does, IsUsable, course_of, itself, machine_of, spot};
 ghost use Rattle.cms_world.specs.Seen.{seen};
 ghost use Rattle.cms_files.specs.OpenFiles.{IsOpened};
-ghost use Rattle.cms_files.specs.Told.{IsFoundTold, info_named};
+ghost use Rattle.cms_files.specs.Told.{IsFoundAt, info_named};
 ghost use Rattle.cms_fileops.specs.TypeCommand as spec;
 
 use cms_disk::FileInfo;
 use cms_files::{
-    FileInput, OpenFile, consume_told, file_input, info_found, open_told, refuse_unfound,
+    FileInput, OpenFile, consume_last, file_input, info_found, open_found, refuse_unfound,
 };
 use cms_line::{Token, Tokens};
 use cms_operands::{
@@ -240,7 +240,7 @@ fn type_records<W: World>(
     if last < count {
         return Ok(Course::Went(0));
     }
-    consume_told(alloc, world, state, letter, &line.range.input.name, info)
+    consume_last(alloc, world, state, letter, &line.range.input.name, info)
 }
 
 // Types the file of the line's name, which a search found.
@@ -254,7 +254,7 @@ fn type_on<W: World>(
 ) -> Result<Course, End>
     requires usable { IsUsable (spot W.World world.old state.old) }
     requires moment { is_moment state.old.moment ≡ true }
-    requires found { IsFoundTold state.old.table found line.now.range.input.name }
+    requires found { IsFoundAt state.old.table found line.now.range.input.name }
     ensures acts { Acts (spot W.World world.old state.old) (spot W.World world.new state.new)
         (λ units. spec.type_on (machine_of state.old units) words.now line.now found.letter)
         result
@@ -264,9 +264,8 @@ fn type_on<W: World>(
       places = state.new.places;
     } }
 {
-    let name = &line.range.input.name;
     let info = info_found(&state.table, found).unwrap();
-    let file = open_told(alloc, &state.table, found.letter, name, &info)?;
+    let file = open_found(alloc, &state.table, found, &info)?;
     if file.count < line.range.first {
         return refuse_line(alloc, world, words.as_slice(), Refusal::BadOperand(4));
     }

@@ -22,9 +22,10 @@ use Rattle.cms_search.specs.Searches.{item_at}
 use Rattle.cms_search.specs.Shows.{Shows}
 use Rattle.cms_search.specs.Tables.{Accesses, Seated}
 use Rattle.cms_search.specs.declared.fault.SearchFault.{SearchFault}
+use Rattle.cms_search.specs.declared.search.Found.{Found}
 use Rattle.cms_search.proofs.Released.{get_map, letter_told}
 use Rattle.cms_files.specs.Files.{UnitFile, file_in, file_on, unit_file}
-use Rattle.cms_files.specs.Told.{HasStored, IsInfo, info_named, stored_named}
+use Rattle.cms_files.specs.Told.{HasStored, IsFoundAt, IsInfo, info_found, info_named, stored_found}
 
 any_file : Name → File
 any_file name = record { name = name; number = 0; format = F; length = 0; stamp = stamp_of first_moment; records = [] }
@@ -106,43 +107,29 @@ has_stored u image name d m k bytes stands at told =
     let named = (place_changed name m.files k place).found (any_file name) in
     subst (λ (x : Option File). HasStored bytes (unit_file u x)) (sym named) (stored_told image d m f k bytes stands there told)
 
-abbrev bytes_in : Name → Option Seated → Option ℕ
-bytes_in name x = option_and_then (λ s. option_and_then (λ place. slice_get (stored_in s.disk.volume) place) (place_of name s.disk.volume)) x
+-- of the file of a name where it was found
+pub found_stored : (t : Accesses) (s : Machine) (found : Found) (name : Name) (bytes : ℕ) → IsFoundAt t found name → Some bytes ≡ stored_found t found → Shows t s
+    → HasStored bytes (file_on s name (letter_at s found.letter))
+found_stored t s found name bytes here is shows =
+    let seat = here.seat in
+    let n = found.letter in
+    let e = shows.each n seat here.there in
+    let own : letter_at s n ≡ Some seat.letter =
+    ap (λ (ls : List (Option Letter)). item_at ls n) (sym shows.letters) ∙ (letter_told t.seats n ∙ ap (λ (x : Option Seated). option_map (λ (y : Seated). y.letter) x) here.there) in
+    let file : file_on s name (letter_at s n) ≡ unit_file seat.letter.unit (file_named name e.1.files) =
+    ap (λ (x : Option Letter). file_on s name x) own ∙ ap (λ (x : Option Minidisk). file_in seat.letter.unit name x) e.2 in
+    let told : slice_get (stored_in seat.disk.volume) found.place ≡ Some bytes =
+    sym (is ∙ ap (λ (x : Option Seated). option_and_then (λ (y : Seated). slice_get (stored_in y.disk.volume) found.place) x) here.there) in
+    subst (HasStored bytes) (sym file) (has_stored seat.letter.unit e.0 name seat.disk e.1 found.place bytes e.3 here.place_is told)
 
-no_bytes : (bytes : ℕ) → Some bytes ≡ None → ⊥
-no_bytes bytes is = cc is
+-- ---- what is told of the file in a place, in every world
 
-pub named_stored : (t : Accesses) (s : Machine) (n : ℕ) (name : Name) (bytes : ℕ) → Some bytes ≡ stored_named t n name → Shows t s → HasStored bytes (file_on s name (letter_at s n))
-named_stored t s n name bytes is shows = cases (item_at t.seats n) refl
+pub found_if : (t : Accesses) (found : Found) (d : Accessed) (P : FileInfo → Type 0) → Some d ≡ option_map (λ (s : Seated). s.disk) (item_at t.seats found.letter)
+    → IfSome (slice_get (infos_in d.volume) found.place) P → IfSome (info_found t found) P
+found_if t found d P is holds = cases (item_at t.seats found.letter) is
   where
-    letter : letter_at s n ≡ option_map (λ (x : Seated). x.letter) (item_at t.seats n)
-    letter = ap (λ (ls : List (Option Letter)). item_at ls n) (sym shows.letters) ∙ letter_told t.seats n
-
-    placed : (seat : Seated) → item_at t.seats n ≡ Some seat → (place : Option ℕ) → place_of name seat.disk.volume ≡ place
-        → Some bytes ≡ option_and_then (λ (k : ℕ). slice_get (stored_in seat.disk.volume) k) place → HasStored bytes (file_on s name (letter_at s n))
-    placed seat at None none told = absurd (no_bytes bytes told)
-    placed seat at (Some k) there told =
-        let e = shows.each n seat at in
-        let own : letter_at s n ≡ Some seat.letter = letter ∙ ap (λ (y : Option Seated). option_map (λ (x : Seated). x.letter) y) at in
-        let file : file_on s name (letter_at s n) ≡ unit_file seat.letter.unit (file_named name e.1.files) =
-        ap (λ (x : Option Letter). file_on s name x) own ∙ ap (λ (x : Option Minidisk). file_in seat.letter.unit name x) e.2 in
-        subst (HasStored bytes) (sym file) (has_stored seat.letter.unit e.0 name seat.disk e.1 k bytes e.3 there (sym told))
-
-    cases : (x : Option Seated) → item_at t.seats n ≡ x → HasStored bytes (file_on s name (letter_at s n))
-    cases None at = absurd (no_bytes bytes (is ∙ ap (bytes_in name) at))
-    cases (Some seat) at = placed seat at (place_of name seat.disk.volume) refl (is ∙ ap (bytes_in name) at)
-
--- ---- what is told of the file at the place of a name, in every world
-
-pub named_if : (t : Accesses) (n : ℕ) (name : Name) (d : Accessed) (k : ℕ) (P : FileInfo → Type 0) → Some d ≡ option_map (λ (s : Seated). s.disk) (item_at t.seats n)
-    → Some k ≡ place_of name d.volume → IfSome (slice_get (infos_in d.volume) k) P → IfSome (info_named t n name) P
-named_if t n name d k P is there holds = cases (item_at t.seats n) is
-  where
-    placed : IfSome (option_and_then (λ (k : ℕ). slice_get (infos_in d.volume) k) (place_of name d.volume)) P
-    placed = subst (λ (place : Option ℕ). IfSome (option_and_then (λ (k : ℕ). slice_get (infos_in d.volume) k) place) P) there holds
-
-    cases : (x : Option Seated) → Some d ≡ option_map (λ (s : Seated). s.disk) x → IfSome (named_in name x) P
+    cases : (x : Option Seated) → Some d ≡ option_map (λ (s : Seated). s.disk) x → IfSome (option_and_then (λ (y : Seated). slice_get (infos_in y.disk.volume) found.place) x) P
     cases None is = absurd (cc is)
     cases (Some s) is =
         let same : d ≡ s.disk = cc is in
-        subst (λ (a : Accessed). IfSome (option_and_then (λ (k : ℕ). slice_get (infos_in a.volume) k) (place_of name a.volume)) P) same placed
+        subst (λ (a : Accessed). IfSome (slice_get (infos_in a.volume) found.place) P) same holds

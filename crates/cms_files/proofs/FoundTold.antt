@@ -1,4 +1,4 @@
--- The file of a name that a search found, as the table tells of it.
+-- The file of a name where a search found it, as the table tells of it.
 use Rattle.std.proofs.Common.{◌≡◌, ◌∙◌, Bool, true, false, ℕ, ◌<◌, length, List, [], ◌∷◌, Option, Some, None, Result, Ok, Err, slice_get, map, arith, refl, sym, ap, subst}
 use Rattle.std.specs.Prelude.{IsSome, position, if◌then◌else◌}
 use Rattle.std.specs.Option.{option_and_then, option_map, option_map_or}
@@ -9,9 +9,9 @@ use Rattle.cms_names.specs.declared.name.Name.{Name}
 use Rattle.cms_model.specs.Minidisks.{same_name}
 use Rattle.cms_model.proofs.Results.{ok_same}
 use Rattle.cms_held.specs.Opening.{HeldFile, HeldVolume, names_in}
-use Rattle.cms_edf.specs.Asking.{info_of, infos_in}
+use Rattle.cms_edf.specs.Asking.{info_of, infos_in, stored_in}
 use Rattle.cms_edf.specs.declared.held.FileInfo.{FileInfo}
-use Rattle.cms_disk.specs.Disks.{place_of}
+use Rattle.cms_disk.specs.Disks.{Accessed, place_of}
 use Rattle.cms_operands.specs.declared.mode.ReadMode.{ReadMode}
 use Rattle.cms_search.specs.Searches.{Listed, Shelf, find_first, first_among, first_placed, found_at, has, item_at, letters_of_mode, may_find, placed_in, placed_on}
 use Rattle.cms_search.specs.Tables.{Accesses, Seated, listed_held, shelf_of, shelves_of}
@@ -20,7 +20,7 @@ use Rattle.cms_search.specs.declared.search.Found.{Found}
 use Rattle.cms_search.proofs.Released.{get_map, position_map}
 use Rattle.cms_search.proofs.Searches.{item_at_map}
 use Rattle.cms_files.proofs.FileTold.{held_at}
-use Rattle.cms_files.specs.Told.{IsFoundTold, info_found, info_named}
+use Rattle.cms_files.specs.Told.{IsFoundAt, info_found, info_named, place_named, stored_found, stored_named}
 
 -- ---- where the search found it
 
@@ -67,26 +67,76 @@ module _ (t : Accesses) (mode : ReadMode) (name : Name) (x : Found) where
   seated_at None is = absurd (cc is)
   seated_at (Some s) is = (s, refl, sym (held_place name s.disk.volume) ∙ shelf_place mode name (shelf_of s) x.place is)
 
-  pub found_told : find_first (shelves_of t) mode name ≡ Ok x → IsFoundTold t x name
-  found_told is =
+  pub found_there : find_first (shelves_of t) mode name ≡ Ok x → IsFoundAt t x name
+  found_there is =
       let on : placed_on (shelves_of t) mode name x.letter ≡ Some x.place = among_at (λ n. placed_on (shelves_of t) mode name n) (letters_of_mode (shelves_of t) mode) x is in
       let shelf = item_at_map shelf_of t.seats x.letter in
       let seat = seated_at (item_at t.seats x.letter) (sym (ap (λ (o : Option Shelf). option_and_then (λ (shelf : Shelf). placed_in mode name shelf) o) shelf) ∙ on) in
-      let v = seat.0.disk.volume in
-      let file = file_at v.files name x.place seat.2 in
-      let info : slice_get (infos_in v) x.place ≡ Some (info_of file.0) = get_map info_of v.files x.place ∙ ap (λ (h : Option HeldFile). option_map info_of h) file.1 in
-      record {
-        info = info_of file.0;
-        place = ap (λ (s : Option Seated). option_and_then (λ (y : Seated). slice_get (infos_in y.disk.volume) x.place) s) seat.1 ∙ info;
-        named = ap (λ (s : Option Seated). option_and_then (λ (y : Seated). option_and_then (λ (k : ℕ). slice_get (infos_in y.disk.volume) k) (place_of name y.disk.volume)) s) seat.1
-            ∙ (ap (λ (p : Option ℕ). option_and_then (λ (k : ℕ). slice_get (infos_in v) k) p) seat.2 ∙ info);
-      }
+      record { seat = seat.0; there = seat.1; place_is = seat.2 }
 
--- ---- what is told of what it found
+-- ---- what is told of what was found
 
-pub is_found : (t : Accesses) (found : Found) (name : Name) → IsFoundTold t found name → IsSome (info_found t found)
-is_found t found name is = subst (λ (x : Option FileInfo). IsSome x) (sym is.place) refl
+-- it is told of the file in its place
+pub info_there : (t : Accesses) (found : Found) (seat : Seated) → item_at t.seats found.letter ≡ Some seat → info_found t found ≡ slice_get (infos_in seat.disk.volume) found.place
+info_there t found seat there = ap (λ (x : Option Seated). option_and_then (λ (y : Seated). slice_get (infos_in y.disk.volume) found.place) x) there
 
 -- it is told of the file of that name
-pub told_as : (t : Accesses) (found : Found) (name : Name) (info : FileInfo) → IsFoundTold t found name → info_found t found ≡ Some info → info_named t found.letter name ≡ Some info
-told_as t found name info is told = is.named ∙ (sym is.place ∙ told)
+pub same_info : (t : Accesses) (found : Found) (name : Name) → IsFoundAt t found name → info_found t found ≡ info_named t found.letter name
+same_info t found name is =
+    let v = is.seat.disk.volume in
+    let named : info_named t found.letter name ≡ slice_get (infos_in v) found.place =
+    ap (λ (x : Option Seated). option_and_then (λ (y : Seated). option_and_then (λ (k : ℕ). slice_get (infos_in y.disk.volume) k) (place_of name y.disk.volume)) x) is.there
+    ∙ ap (λ (p : Option ℕ). option_and_then (λ (k : ℕ). slice_get (infos_in v) k) p) is.place_is in
+    info_there t found is.seat is.there ∙ sym named
+
+pub told_as : (t : Accesses) (found : Found) (name : Name) (info : FileInfo) → IsFoundAt t found name → info_found t found ≡ Some info → info_named t found.letter name ≡ Some info
+told_as t found name info is told = sym (same_info t found name is) ∙ told
+
+-- on its disk the name has that place
+pub on_disk : (t : Accesses) (found : Found) (name : Name) (d : Accessed) → IsFoundAt t found name → Some d ≡ option_map (λ (s : Seated). s.disk) (item_at t.seats found.letter)
+    → place_of name d.volume ≡ Some found.place
+on_disk t found name d here is =
+    let same : d ≡ here.seat.disk = same_Some d here.seat.disk (is ∙ ap (λ (x : Option Seated). option_map (λ (s : Seated). s.disk) x) here.there) in
+    subst (λ (a : Accessed). place_of name a.volume ≡ Some found.place) (sym same) here.place_is
+
+-- as many bytes are stored of it
+pub same_stored : (t : Accesses) (found : Found) (name : Name) → IsFoundAt t found name → stored_found t found ≡ stored_named t found.letter name
+same_stored t found name is =
+    let v = is.seat.disk.volume in
+    let there : stored_found t found ≡ slice_get (stored_in v) found.place =
+    ap (λ (x : Option Seated). option_and_then (λ (y : Seated). slice_get (stored_in y.disk.volume) found.place) x) is.there in
+    let named : stored_named t found.letter name ≡ slice_get (stored_in v) found.place =
+    ap (λ (x : Option Seated). option_and_then (λ (y : Seated). option_and_then (λ (k : ℕ). slice_get (stored_in y.disk.volume) k) (place_of name y.disk.volume)) x) is.there
+    ∙ ap (λ (p : Option ℕ). option_and_then (λ (k : ℕ). slice_get (stored_in v) k) p) is.place_is in
+    there ∙ sym named
+
+-- something is told of it
+pub is_found : (t : Accesses) (found : Found) (name : Name) → IsFoundAt t found name → IsSome (info_found t found)
+is_found t found name is =
+    let v = is.seat.disk.volume in
+    let file = file_at v.files name found.place is.place_is in
+    let info : slice_get (infos_in v) found.place ≡ Some (info_of file.0) = get_map info_of v.files found.place ∙ ap (λ (h : Option HeldFile). option_map info_of h) file.1 in
+    subst (λ (x : Option FileInfo). IsSome x) (sym (info_there t found is.seat is.there ∙ info)) refl
+
+-- ---- the file of a name
+
+-- it is in the place that is told of it
+pub placed_named : (t : Accesses) (n : ℕ) (name : Name) (k : ℕ) → place_named t n name ≡ Some k → IsFoundAt t (found_at n k) name
+placed_named t n name k is = cases (item_at t.seats n) refl is
+  where
+    cases : (x : Option Seated) → item_at t.seats n ≡ x → option_and_then (λ (s : Seated). place_of name s.disk.volume) x ≡ Some k → IsFoundAt t (found_at n k) name
+    cases None at e = absurd (cc e)
+    cases (Some s) at e = record { seat = s; there = at; place_is = e }
+
+-- one of which something is told has a place
+pub named_placed : (t : Accesses) (n : ℕ) (name : Name) (info : FileInfo) → Some info ≡ info_named t n name → IsSome (place_named t n name)
+named_placed t n name info is = cases (item_at t.seats n) is
+  where
+    placed : (v : HeldVolume) (p : Option ℕ) → Some info ≡ option_and_then (λ (k : ℕ). slice_get (infos_in v) k) p → IsSome p
+    placed v None e = absurd (cc e)
+    placed v (Some k) e = refl
+
+    cases : (x : Option Seated) → Some info ≡ option_and_then (λ (s : Seated). option_and_then (λ (k : ℕ). slice_get (infos_in s.disk.volume) k) (place_of name s.disk.volume)) x
+        → IsSome (option_and_then (λ (s : Seated). place_of name s.disk.volume) x)
+    cases None e = absurd (cc e)
+    cases (Some s) e = placed s.disk.volume (place_of name s.disk.volume) e

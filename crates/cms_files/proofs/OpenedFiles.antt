@@ -1,6 +1,8 @@
 -- Files that are opened.
-use Rattle.std.proofs.Common.{◌≡◌, ◌≤◌, ◌∙◌, ℕ, zero, suc, List, [], ◌∷◌, Option, Some, None, Err, length, slice_get, map, refl, sym, ap, subst}
-use Rattle.std.specs.Option.{option_and_then, option_map}
+use Rattle.std.proofs.Common.{◌≡◌, ◌<◌, ◌≤◌, ◌∙◌, ℕ, zero, suc, List, [], ◌∷◌, Option, Some, None, Err, length, slice_get, map, refl, sym, ap, subst, arith}
+use Rattle.std.specs.Prelude.{IsSome}
+use Rattle.std.specs.Option.{option_map}
+use Rattle.std.proofs.lemmas.Bool.{false≢true}
 use Rattle.std.proofs.lemmas.Option.{same_Some}
 use Rattle.cms_names.specs.declared.name.Format.{Format}
 use Rattle.cms_names.specs.declared.name.Format.TheVariants.{F}
@@ -15,9 +17,8 @@ use Rattle.cms_edf.specs.declared.held.FileInfo.{FileInfo}
 use Rattle.cms_held.specs.Opening.{HeldFile}
 use Rattle.cms_records.specs.Pieces.{Begun}
 use Rattle.cms_disk.specs.Cursors.{IsFirst, IsUnread, Reading, first_begun}
-use Rattle.cms_disk.specs.Disks.{Accessed, OpensIn, StartsAt, place_of}
+use Rattle.cms_disk.specs.Disks.{Accessed, FirstIn, OpensIn, StartsAt, place_of}
 use Rattle.cms_disk.specs.declared.unit.UnitInfo.{UnitInfo}
-use Rattle.cms_disk.proofs.Finding.{none_found}
 use Rattle.cms_search.specs.Calls.{IsUsable, Spot, machine_of}
 use Rattle.cms_search.specs.Machine.{Letter, Machine, letter_at}
 use Rattle.cms_search.specs.Searches.{item_at}
@@ -25,13 +26,15 @@ use Rattle.cms_search.specs.Shows.{Shows}
 use Rattle.cms_search.specs.Tables.{Accesses, Seated}
 use Rattle.cms_search.specs.Units.{vdev_of}
 use Rattle.cms_search.specs.declared.fault.SearchFault.TheVariants as why
+use Rattle.cms_search.specs.declared.search.Found.{Found}
 use Rattle.cms_search.specs.declared.state.State.{State}
 use Rattle.cms_search.proofs.HandedRecords.{IsOpen, Reads, left_long, open_seat, reads_seat}
 use Rattle.cms_search.proofs.LetterDisks.{letter_is}
 use Rattle.cms_search.proofs.Released.{letter_told, vdev_is}
 use Rattle.cms_files.specs.Files.{file_on}
 use Rattle.cms_files.specs.OpenFiles.{HasRecords, IsOpened}
-use Rattle.cms_files.specs.Told.{info_named}
+use Rattle.cms_files.specs.Told.{IsFoundAt, info_found}
+use Rattle.cms_files.proofs.FoundTold.{info_there, on_disk}
 use Rattle.cms_files.specs.declared.open_files.OpenFile.{OpenFile}
 
 -- ---- the disk of a letter
@@ -56,17 +59,6 @@ none_on t s n name none shows =
     ap (λ (ls : List (Option Letter)). item_at ls n) (sym shows.letters) ∙ (letter_told t.seats n ∙ ap (λ (x : Option Seated). option_map (λ (y : Seated). y.letter) x) none) in
     rw letter refl
 
-pub none_named : (t : Accesses) (s : Machine) (n : ℕ) (name : Name) (d : Accessed) → Some d ≡ option_map (λ (x : Seated). x.disk) (item_at t.seats n) → place_of name d.volume ≡ None
-    → Shows t s → file_on s name (letter_at s n) ≡ Err why.NotFound
-none_named t s n name d is none shows =
-    let seat = seat_with (item_at t.seats n) d is in
-    let x = shows.each n seat.0 seat.1 in
-    let letter = letter_shown t s n seat.0 shows seat.1 in
-    let disk : place_of name seat.0.disk.volume ≡ None = subst (λ (a : Accessed). place_of name a.volume ≡ None) (sym seat.2) none in
-    let absent = none_found seat.0.disk name disk x.0 x.1 x.3 in
-    let slot = x.2 in
-    rw (letter, slot, absent) refl
-
 -- ---- a file
 
 info_at : (hs : List HeldFile) (k : ℕ) (info : FileInfo) (h : HeldFile) → slice_get (map info_of hs) k ≡ Some info → slice_get hs k ≡ Some h → info ≡ info_of h
@@ -84,7 +76,7 @@ unread_first unit total bsize blocks format high count c first same = record {
 }
 
 -- it was opened where it was found
-pub opened_at : (t : Accesses) (n : ℕ) (name : Name) (d : Accessed) (place : ℕ) (info : FileInfo) (file : OpenFile)
+opened_at : (t : Accesses) (n : ℕ) (name : Name) (d : Accessed) (place : ℕ) (info : FileInfo) (file : OpenFile)
     → Some d ≡ option_map (λ (x : Seated). x.disk) (item_at t.seats n) → Some place ≡ place_of name d.volume → slice_get (infos_in d.volume) place ≡ Some info
     → OpensIn d name file.cursor → StartsAt name d.volume file.cursor → file.count ≡ info.count → file.format ≡ info.format
     → ((s : Seated) → item_at t.seats n ≡ Some s → option_map (λ (unit : UnitInfo). unit.vdev) (slice_get t.units s.letter.unit) ≡ Some file.vdev) → IsOpened t n name file
@@ -104,25 +96,31 @@ opened_at t n name d place info file is at told opens starts count format device
           (sym (ap (λ (i : FileInfo). i.format) tells) ∙ (sym format ∙ same));
     }
 
--- it was opened by what is told of it
-pub opened_told : (t : Accesses) (n : ℕ) (name : Name) (d : Accessed) (info : FileInfo) (file : OpenFile) → Some info ≡ info_named t n name
-    → Some d ≡ option_map (λ (x : Seated). x.disk) (item_at t.seats n) → OpensIn d name file.cursor → StartsAt name d.volume file.cursor → file.count ≡ info.count → file.format ≡ info.format
-    → ((s : Seated) → item_at t.seats n ≡ Some s → option_map (λ (unit : UnitInfo). unit.vdev) (slice_get t.units s.letter.unit) ≡ Some file.vdev) → IsOpened t n name file
-opened_told t n name d info file told is opens starts count format device =
-    let seat = seat_with (item_at t.seats n) d is in
-    let at : place_of name seat.0.disk.volume ≡ Some starts.place = subst (λ (a : Accessed). place_of name a.volume ≡ Some starts.place) (sym seat.2) starts.place_is in
-    let found : Some info ≡ slice_get (infos_in seat.0.disk.volume) starts.place =
-    told ∙ (ap (λ (x : Option Seated). option_and_then (λ (y : Seated). option_and_then (λ (k : ℕ). slice_get (infos_in y.disk.volume) k) (place_of name y.disk.volume)) x) seat.1
-    ∙ ap (λ (p : Option ℕ). option_and_then (λ (k : ℕ). slice_get (infos_in seat.0.disk.volume) k) p) at) in
-    opened_at t n name d starts.place info file is (sym starts.place_is) (subst (λ (a : Accessed). slice_get (infos_in a.volume) starts.place ≡ Some info) seat.2 (sym found)) opens starts count format device
+-- a file that was found is one of its disk's
+told_within : (hs : List HeldFile) (k : ℕ) → IsSome (slice_get (map info_of hs) k) → k < length hs
+told_within [] k some = absurd (false≢true some)
+told_within (h ∷ hs) zero some = omega arith
+told_within (h ∷ hs) (suc k) some = let less = told_within hs k some in omega (arith, less)
 
--- the letter of a file of which something is told has a disk
-pub told_seated : (t : Accesses) (n : ℕ) (name : Name) (info : FileInfo) → Some info ≡ info_named t n name → (s : Seated) × (item_at t.seats n ≡ Some s)
-told_seated t n name info told = cases (item_at t.seats n) told
-  where
-    cases : (x : Option Seated) → Some info ≡ option_and_then (λ (y : Seated). option_and_then (λ (k : ℕ). slice_get (infos_in y.disk.volume) k) (place_of name y.disk.volume)) x → (s : Seated) × (x ≡ Some s)
-    cases None e = absurd (cc e)
-    cases (Some s) e = (s, refl)
+pub found_within : (t : Accesses) (found : Found) (d : Accessed) → IsSome (info_found t found) → Some d ≡ option_map (λ (x : Seated). x.disk) (item_at t.seats found.letter)
+    → found.place < length d.volume.files
+found_within t found d some is =
+    let seat = seat_with (item_at t.seats found.letter) d is in
+    let there = subst (λ (x : Option FileInfo). IsSome x) (info_there t found seat.0 seat.1) some in
+    subst (λ (a : Accessed). found.place < length a.volume.files) seat.2 (told_within seat.0.disk.volume.files found.place there)
+
+-- it was opened in the place where the file of a name was found
+pub opened_found_at : (t : Accesses) (found : Found) (name : Name) (d : Accessed) (info : FileInfo) (file : OpenFile) → IsFoundAt t found name → info_found t found ≡ Some info
+    → Some d ≡ option_map (λ (x : Seated). x.disk) (item_at t.seats found.letter) → ((n : Name) → place_of n d.volume ≡ Some found.place → OpensIn d n file.cursor)
+    → FirstIn d.volume found.place file.cursor → file.count ≡ info.count → file.format ≡ info.format
+    → ((s : Seated) → item_at t.seats found.letter ≡ Some s → option_map (λ (unit : UnitInfo). unit.vdev) (slice_get t.units s.letter.unit) ≡ Some file.vdev) → IsOpened t found.letter name file
+opened_found_at t found name d info file here told is opens first count format device =
+    let same : d ≡ here.seat.disk = same_Some d here.seat.disk (is ∙ ap (λ (x : Option Seated). option_map (λ (s : Seated). s.disk) x) here.there) in
+    let place = on_disk t found name d here is in
+    let tells : slice_get (infos_in d.volume) found.place ≡ Some info =
+    subst (λ (a : Accessed). slice_get (infos_in a.volume) found.place ≡ Some info) (sym same) (sym (info_there t found here.seat here.there) ∙ told) in
+    opened_at t found.letter name d found.place info file is (sym place) tells (opens name place)
+    (record { place = found.place; place_is = place; file = first.0; file_is = first.1; first = first.2 }) count format device
 
 -- the machine finds it
 pub opened_found : (t : Accesses) (s : Machine) (n : ℕ) (name : Name) (file : OpenFile) → IsOpened t n name file → Shows t s → HasRecords file.count (file_on s name (letter_at s n))

@@ -8,7 +8,7 @@ use Rattle.cms_edf.specs.Asking.{infos_in, stored_in}
 use Rattle.cms_edf.specs.declared.held.FileInfo.{FileInfo}
 use Rattle.cms_disk.specs.Disks.{place_of}
 use Rattle.cms_search.specs.Searches.{item_at}
-use Rattle.cms_search.specs.Tables.{Accesses}
+use Rattle.cms_search.specs.Tables.{Accesses, Seated}
 use Rattle.cms_search.specs.declared.fault.SearchFault.{SearchFault}
 use Rattle.cms_search.specs.declared.search.Found.{Found}
 use Rattle.cms_files.specs.Files.{UnitFile}
@@ -25,6 +25,10 @@ stored_named t n name =
     option_and_then (λ s. option_and_then (λ place. slice_get (stored_in s.disk.volume) place) (place_of name s.disk.volume))
     (item_at t.seats n)
 
+-- its place on that disk
+abbrev pub place_named : Accesses → ℕ → Name → Option ℕ
+place_named t n name = option_and_then (λ s. place_of name s.disk.volume) (item_at t.seats n)
+
 -- a file is found, and its records have so many bytes as they are stored
 abbrev pub HasStored : ℕ → Result UnitFile SearchFault → Type 0
 HasStored bytes (Ok x) = bytes ≡ length (stored x.file.format x.file.records)
@@ -33,6 +37,10 @@ HasStored bytes (Err e) = ⊥
 -- what is told of a file that was found, where it is there
 abbrev pub info_found : Accesses → Found → Option FileInfo
 info_found t found = option_and_then (λ s. slice_get (infos_in s.disk.volume) found.place) (item_at t.seats found.letter)
+
+-- how many bytes are stored of it
+abbrev pub stored_found : Accesses → Found → Option ℕ
+stored_found t found = option_and_then (λ s. slice_get (stored_in s.disk.volume) found.place) (item_at t.seats found.letter)
 
 -- what is told of a file is so
 pub record IsInfo (info : FileInfo) (f : File) : Type 0 where
@@ -43,8 +51,8 @@ pub record IsInfo (info : FileInfo) (f : File) : Type 0 where
   pub stamp : info.stamp ≡ f.stamp
   pub count : info.count ≡ length f.records
 
--- a search found the file of a name: what is told of what it found is told of that
-pub record IsFoundTold (t : Accesses) (found : Found) (name : Name) : Type 0 where
-  pub info : FileInfo
-  pub place : info_found t found ≡ Some info
-  pub named : info_named t found.letter name ≡ Some info
+-- the file of a name stands where it was found
+pub record IsFoundAt (t : Accesses) (found : Found) (name : Name) : Type 0 where
+  pub seat : Seated
+  pub there : item_at t.seats found.letter ≡ Some seat
+  pub place_is : place_of name seat.disk.volume ≡ Some found.place

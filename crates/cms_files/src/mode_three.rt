@@ -1,8 +1,7 @@
 // Files of mode number 3, which are erased once they are read to their end.
-ghost use Rattle.std.specs.Prelude.{◌≡◌, true, IsSome, Some, Ok};
-ghost use Rattle.std.specs.Option.{ForSome};
-ghost use Rattle.cms_disk.specs.Disks.{place_of};
+ghost use Rattle.std.specs.Prelude.{◌≡◌, true, Some, Ok};
 ghost use Rattle.cms_fields.specs.Moments.{is_moment};
+ghost use Rattle.cms_names.specs.declared.name.Name as names;
 ghost use Rattle.cms_search.specs.Calls.{Acts, IsUsable, course_of, machine_of, spot};
 ghost use Rattle.cms_search.specs.Machine.{Machine};
 ghost use Rattle.cms_search.specs.Searches.{item_at};
@@ -24,32 +23,32 @@ use std::alloc::Global;
 // The mode number of files that are erased once they are read.
 const READ_ONCE: u8 = 3;
 
-/// Whether reading the file of a name on the disk of a letter to its end erases it: its mode number is 3, and the disk isn't read-only.
-pub fn is_consumed(table: &Table, letter: u8, name: &Name) -> bool
-    ensures machine { (s : Machine) → Shows table.now s
-        → result ≡ spec.is_consumed s letter name.now }
+/// Whether reading a file on the disk of a letter, of which this is told, to its end erases it: its mode number is 3, and the disk isn't
+/// read-only.
+pub fn is_consumed(table: &Table, letter: u8, info: &FileInfo) -> bool
+    ensures machine { (name : names.Name) (s : Machine)
+        → Some info.now ≡ told.info_named table.now letter name → Shows table.now s
+        → result ≡ spec.is_consumed s letter name }
     ensures writing { result ≡ true
         → writing (item_at (letters_of table.now) letter) letter ≡ Ok tt }
-    ensures there { result ≡ true
-        → ForSome (item_at table.now.seats letter) (λ s. IsSome (place_of name.now s.disk.volume)) }
 {
-    match info_named(table, letter, name) {
-        Some(info) => info.number == READ_ONCE && table.find_write(letter).is_ok(),
-        None => false,
-    }
+    info.number == READ_ONCE && table.find_write(letter).is_ok()
 }
 
-/// Ends the work on the file of a name on the disk of a letter, which was read to its end: where that erases it, it goes by an update of its
-/// own. Want of room and a fault of the device are typed, and end the command; the file stays then, or its disk is in doubt.
-pub fn consume<W: World>(
+/// Ends the work on the file of a name on the disk of a letter, of which this is told and which was read to its end: where that erases it,
+/// it goes by an update of its own. Want of room and a fault of the device are typed, and end the command; the file stays then, or its disk
+/// is in doubt.
+pub fn consume_told<W: World>(
     alloc: Global,
     world: &mut W,
     state: &mut State,
     letter: u8,
     name: &Name,
+    info: &FileInfo,
 ) -> Result<Updated, End>
     requires usable { IsUsable (spot W.World world.old state.old) }
     requires moment { is_moment state.old.moment ≡ true }
+    requires told { Some info.now ≡ told.info_named state.old.table letter name.now }
     ensures acts { Acts (spot W.World world.old state.old) (spot W.World world.new state.new)
         (spec.consuming_tree state.old letter name.now) result (updated_of state.new) }
     ensures kept { state.new ≡ record state.old {
@@ -57,7 +56,7 @@ pub fn consume<W: World>(
       places = state.new.places;
     } }
 {
-    if !is_consumed(&state.table, letter, name) {
+    if !is_consumed(&state.table, letter, info) {
         return Ok(Updated::Done);
     }
     update_disk(alloc, world, state, letter, &Change::Drop { name })
@@ -65,30 +64,6 @@ pub fn consume<W: World>(
 
 /// The same, as the last thing of a command.
 pub fn consume_last<W: World>(
-    alloc: Global,
-    world: &mut W,
-    state: &mut State,
-    letter: u8,
-    name: &Name,
-) -> Result<Course, End>
-    requires usable { IsUsable (spot W.World world.old state.old) }
-    requires moment { is_moment state.old.moment ≡ true }
-    ensures acts { Acts (spot W.World world.old state.old) (spot W.World world.new state.new)
-        (λ units. spec.last_consuming (machine_of state.old units) letter name.now) result
-        (course_of state.new) }
-    ensures kept { state.new ≡ record state.old {
-      table = state.new.table;
-      places = state.new.places;
-    } }
-{
-    match consume(alloc, world, state, letter, name)? {
-        Updated::Done => Ok(Course::Went(0)),
-        Updated::Stopped(course) => Ok(course),
-    }
-}
-
-/// The same of a file of which this is told.
-pub fn consume_told<W: World>(
     alloc: Global,
     world: &mut W,
     state: &mut State,
@@ -107,8 +82,31 @@ pub fn consume_told<W: World>(
       places = state.new.places;
     } }
 {
-    if info.number != READ_ONCE {
-        return Ok(Course::Went(0));
+    match consume_told(alloc, world, state, letter, name, info)? {
+        Updated::Done => Ok(Course::Went(0)),
+        Updated::Stopped(course) => Ok(course),
     }
-    consume_last(alloc, world, state, letter, name)
+}
+
+/// The same behind an update, by which what was told of the file may be another: it is looked for anew.
+pub fn consume<W: World>(
+    alloc: Global,
+    world: &mut W,
+    state: &mut State,
+    letter: u8,
+    name: &Name,
+) -> Result<Updated, End>
+    requires usable { IsUsable (spot W.World world.old state.old) }
+    requires moment { is_moment state.old.moment ≡ true }
+    ensures acts { Acts (spot W.World world.old state.old) (spot W.World world.new state.new)
+        (spec.consuming_tree state.old letter name.now) result (updated_of state.new) }
+    ensures kept { state.new ≡ record state.old {
+      table = state.new.table;
+      places = state.new.places;
+    } }
+{
+    match info_named(&state.table, letter, name) {
+        Some(info) => consume_told(alloc, world, state, letter, name, &info),
+        None => Ok(Updated::Done),
+    }
 }

@@ -18,6 +18,9 @@ pub extended_shape-shape-requires-clause-there : goal.extended_shape-shape-requi
 extended_shape-shape-requires-clause-there g c =
     sym (extended_there c.args.line.now.style.existing c.args.file.now.there c.args.own.now c.requires.own) ∙ c.requires.file.there
 
+pub extended_shape-shape-requires-clause-place : goal.extended_shape-shape-requires-clause-place
+extended_shape-shape-requires-clause-place g c = c.requires.file.there_place
+
 pub extended_shape-shape-requires-clause-own : goal.extended_shape-shape-requires-clause-own
 extended_shape-shape-requires-clause-own g c =
     own_there c.args.line.now.style.existing c.args.file.now.there c.args.own.now c.requires.file.sound_there c.requires.own
@@ -32,6 +35,9 @@ extended_shape-shape-requires-clause-count g c =
     let own = (own_there c.args.line.now.style.existing c.args.file.now.there c.args.own.now c.requires.file.sound_there c.requires.own).few in
     let more = c.requires.count in
     omega (arith, own, more)
+
+pub put_copied-requires-clause-place : goal.put_copied-requires-clause-place
+put_copied-requires-clause-place g c = c.requires.file.place
 
 pub put_copied-requires-clause-told : goal.put_copied-requires-clause-told
 put_copied-requires-clause-told g c = c.requires.file.input

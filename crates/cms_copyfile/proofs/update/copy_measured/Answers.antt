@@ -7,6 +7,9 @@ use Rattle.cms_copyfile.proofs.CopyShaped.{shaped_as}
 use Rattle.cms_copyfile.proofs.TablesTold.{number_few, stamp_valid}
 use Rattle.cms_copyfile.proofs.update.copy_measured.Goals as goal
 
+pub put_copied-requires-clause-place : goal.put_copied-requires-clause-place
+put_copied-requires-clause-place g c = c.requires.file.place
+
 pub put_copied-requires-clause-told : goal.put_copied-requires-clause-told
 put_copied-requires-clause-told g c = c.requires.file.input
 

@@ -19,8 +19,14 @@ use Rattle.cms_copyfile.proofs.OneRead.{whole}
 use Rattle.cms_copyfile.proofs.TablesTold.{wanted_few}
 use Rattle.cms_copyfile.proofs.update.copy_records.Goals as goal
 
-pub open_input-requires : goal.open_input-requires
-open_input-requires g c = record { told = c.requires.file.input }
+pub open_input-requires-clause-place : goal.open_input-requires-clause-place
+open_input-requires-clause-place g c = c.requires.file.place
+
+pub open_input-requires-clause-told : goal.open_input-requires-clause-told
+open_input-requires-clause-told g c = c.requires.file.input
+
+pub measure_input-measured-requires-clause-place : goal.measure_input-measured-requires-clause-place
+measure_input-measured-requires-clause-place g c = c.requires.file.place
 
 pub measure_input-measured-requires-clause-blocks : goal.measure_input-measured-requires-clause-blocks
 measure_input-measured-requires-clause-blocks g c =

@@ -2,6 +2,7 @@ use Rattle.std.proofs.Common.{◌∙◌, false, refl, sym, true≢false}
 use Rattle.std.proofs.lemmas.Result.{err_from_is_err_and}
 use Rattle.cms_search.specs.Calls.{machine_of, spot}
 use Rattle.cms_search.proofs.LetterDisks.{holds_shows}
+use Rattle.cms_files.proofs.Consumed.{named_there}
 use Rattle.cms_execio.proofs.Takings.{Goes, read_erases, read_kept, read_starved}
 use Rattle.cms_execio.proofs.diskr.end_read.Goals as goal
 use Rattle.cms_execio.proofs.diskr.end_read.Goals.{else-span-via-then-span+else-is_consumed, else-span-via-else-span}
@@ -16,9 +17,12 @@ returns-then-is_consumed-clause-acts g c =
     read_erases old c.args.line.now c.args.letter c.args.vdev span.last span.front span.taken new c.erase_read.result
     (λ units h.
     let last = c.if-span.true in
-    let goes = sym (c.is_consumed.ensures.machine (machine_of s units) (holds_shows old units h)) ∙ c.if-is_consumed.true in
+    let goes = sym (c.is_consumed.ensures.machine c.args.line.now.range.input.name (machine_of s units) c.requires.told (holds_shows old units h)) ∙ c.if-is_consumed.true in
     rw (last, goes) refl)
     c.erase_read.ensures.acts
+
+pub erase_read-requires-clause-there : goal.erase_read-requires-clause-there
+erase_read-requires-clause-there g c = λ s at. named_there c.args.state.now.table c.args.letter c.args.line.now.range.input.name c.args.info.now (sym c.requires.told) s at
 
 -- there is no memory to keep a place
 pub returns-in_err-go_on-clause-acts : goal.returns-in_err-go_on-clause-acts
@@ -38,7 +42,7 @@ returns-clause-acts g c =
     elim c.else-span.branch [
       | else-span-via-then-span+else-is_consumed w ↦ (λ units h.
           let last = w.if-span.true in
-          let no = sym (w.is_consumed.ensures.machine (machine_of s units) (holds_shows old units h)) ∙ w.if-is_consumed.false in
+          let no = sym (w.is_consumed.ensures.machine c.args.line.now.range.input.name (machine_of s units) c.requires.told (holds_shows old units h)) ∙ w.if-is_consumed.false in
           rw (last, no) refl)
       | else-span-via-else-span w ↦ (λ units h. let last = w.if-span.false in rw last refl)
     ] in

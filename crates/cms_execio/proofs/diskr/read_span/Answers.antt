@@ -13,7 +13,7 @@ use Rattle.cms_search.specs.declared.state.Course.{Course}
 use Rattle.cms_search.specs.declared.state.Course.TheVariants.{Went}
 use Rattle.cms_execio.specs.Diskr.{lines_on, stack_read}
 use Rattle.cms_execio.specs.Starts.{GoesOnBehind, KeepsBehind}
-use Rattle.cms_execio.proofs.Resumed.{left_kept, left_sound, ok_each, opened_reading, resumed_all, resumed_lines, resumed_starved, resumed_unread, unread_behind}
+use Rattle.cms_execio.proofs.Resumed.{left_kept, left_sound, ok_each, opened_reading, resumed_all, resumed_lines, resumed_starved, resumed_unread, told_behind, told_reading, unread_behind}
 use Rattle.cms_execio.proofs.Takings.{IsStart, TakenSoFar, front_left, read_more, stacks_nothing, stacks_read, start_read, taken_left, taken_more, tree}
 use Rattle.cms_execio.proofs.diskr.read_span.Goals as goal
 use Rattle.cms_execio.proofs.diskr.read_span.Goals.{then-span, else-span}
@@ -163,6 +163,20 @@ keep_behind-requires-clause-sound g c =
     let so = c.loop-nth.invariant file.cursor (start_read old n name file o (opened_open old n name file o c.requires.usable) span.front kept.result start.result is) in
     left_sound old [] n c.args.line.now file o span.front span.taken c.requires.front c.requires.taken c.requires.some c.requires.usable kept.new.self kept.ensures.taken
     kept.result start.result is (seen g.W.World c.loop-nth.world) c.loop-nth.cursor c.loop-nth.nth c.loop-nth.lines so.0 so.1 (omega arith)
+
+-- the same is told of the file
+pub stack_read-requires-clause-told : goal.stack_read-requires-clause-told
+stack_read-requires-clause-told g c =
+    let table = c.args.state.now.table in
+    let n = c.args.letter in
+    let name = c.args.line.now.range.input.name in
+    let file = c.args.file in
+    let kept = c.take_reading-kept in
+    let opened = opened_reading table kept.new.self n None name file c.requires.opened kept.ensures.taken in
+    let count = c.args.span.front + c.args.span.taken in
+    c.requires.told
+    ∙ sym (told_behind kept.new.self c.keep_behind.new.table n name file count _ c.loop-nth.cursor opened c.keep_behind.ensures
+    ∙ told_reading table kept.new.self n None name file c.requires.opened kept.ensures.taken)
 
 -- the units may be used still
 pub stack_read-requires-clause-usable : goal.stack_read-requires-clause-usable

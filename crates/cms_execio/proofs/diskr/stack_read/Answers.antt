@@ -3,6 +3,7 @@ use Rattle.std.proofs.lemmas.Result.{err_from_is_err_and}
 use Rattle.cms_search.specs.Calls.{spot}
 use Rattle.cms_search.specs.declared.state.State.{State}
 use Rattle.cms_files.specs.StackedLines.{StacksSome}
+use Rattle.cms_files.specs.Told.{info_named}
 use Rattle.cms_execio.proofs.Takings.{stacked_ends, stacked_stops, stacked_then}
 use Rattle.cms_execio.proofs.diskr.stack_read.Goals as goal
 
@@ -24,6 +25,11 @@ returns-then-not-went_well-clause-acts g c =
     let mid = spot g.W.World c.stack_lines.new.world c.stack_lines.new.state in
     stacked_ends old mid c.args.line.now c.args.letter c.args.vdev span.last span.front span.taken c.args.lines.now c.in_ok-course.course c.in_ok-course.ensures.acts
     (c.went_well.ensures.other (search rules))
+
+-- the disks are as before
+pub end_read-requires-clause-told : goal.end_read-requires-clause-told
+end_read-requires-clause-told g c =
+    c.requires.told ∙ sym (ap (λ (s : State). info_named s.table c.args.letter c.args.line.now.range.input.name) c.stack_lines.ensures.kept)
 
 -- all were stacked
 pub returns-clause-acts : goal.returns-clause-acts

@@ -1,6 +1,6 @@
 use Rattle.std.proofs.Common.{◌∙◌, refl, sym}
 use Rattle.cms_search.specs.Calls.{course_of, spot}
-use Rattle.cms_files.proofs.FoundTold.{found_told}
+use Rattle.cms_files.proofs.FoundTold.{found_there}
 use Rattle.cms_files.proofs.FilesRead.{acts_read_found, acts_read_unfound}
 use Rattle.cms_fileops.specs.TypeCommand.{type_on}
 use Rattle.cms_fileops.proofs.type_command.type_file.Goals as goal
@@ -8,7 +8,7 @@ use Rattle.cms_fileops.proofs.type_command.type_file.Goals as goal
 pub type_on-requires-clause-found : goal.type_on-requires-clause-found
 type_on-requires-clause-found g c =
     let input = c.args.line.now.range.input in
-    found_told c.args.state.now.table input.mode input.name c.in-Ok.found (sym c.find_read.ensures.found ∙ c.in-Ok.is)
+    found_there c.args.state.now.table input.mode input.name c.in-Ok.found (sym c.find_read.ensures.found ∙ c.in-Ok.is)
 
 pub returns-in-Ok-clause-acts : goal.returns-in-Ok-clause-acts
 returns-in-Ok-clause-acts g c =

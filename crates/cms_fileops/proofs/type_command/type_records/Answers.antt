@@ -67,8 +67,8 @@ returns-then-last-count-clause-acts g c = λ words.
     (spot g.W.World c.loop-nth.world s) c.loop-nth.cursor c.loop-nth.nth c.loop-nth.invariant (omega arith) refl (omega arith)
 
 -- or it is, and the units may be used still
-pub consume_told-requires-clause-usable : goal.consume_told-requires-clause-usable
-consume_told-requires-clause-usable g c =
+pub consume_last-requires-clause-usable : goal.consume_last-requires-clause-usable
+consume_last-requires-clause-usable g c =
     let s = c.args.state.now in
     let come = typed_all (spot g.W.World c.args.world.now s) [] c.args.letter c.args.line.now c.args.file c.requires.opened c.requires.first c.wanted-last.result c.wanted-last.ensures
     (spot g.W.World c.loop-nth.world s) c.loop-nth.cursor c.loop-nth.nth c.loop-nth.invariant (omega arith) refl in
@@ -78,5 +78,5 @@ pub returns-clause-acts : goal.returns-clause-acts
 returns-clause-acts g c = λ words.
     let s = c.args.state.now in
     typed_whole (spot g.W.World c.args.world.now s) words c.args.letter c.args.line.now c.args.file c.requires.opened c.requires.first c.wanted-last.result c.wanted-last.ensures
-    (spot g.W.World c.loop-nth.world s) (spot g.W.World c.consume_told.new.world c.consume_told.new.state) c.loop-nth.cursor c.loop-nth.nth c.consume_told.result c.loop-nth.invariant
-    (omega arith) refl (omega arith) c.consume_told.ensures.acts
+    (spot g.W.World c.loop-nth.world s) (spot g.W.World c.consume_last.new.world c.consume_last.new.state) c.loop-nth.cursor c.loop-nth.nth c.consume_last.result c.loop-nth.invariant
+    (omega arith) refl (omega arith) c.consume_last.ensures.acts

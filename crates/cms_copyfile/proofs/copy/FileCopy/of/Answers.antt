@@ -1,3 +1,4 @@
+use Rattle.std.proofs.Common.{◌∙◌}
 use Rattle.cms_copyfile.proofs.FilesCopied.{copy_missing}
 use Rattle.cms_copyfile.proofs.copy.FileCopy.of.Goals as goal
 
@@ -6,10 +7,12 @@ returns-in_err-input-clause-none c = λ is s shows. copy_missing c.args.table.no
 
 pub returns-clause-copy : goal.returns-clause-copy
 returns-clause-copy c = record {
+  place = c.in_ok-input.ensures.place;
   input = c.in_ok-input.ensures.told;
   letter = c.letter_for-letter.ensures;
   name = c.equal_signs-name.ensures;
-  there = c.info_named-2.ensures.told;
+  there_place = c.place_in.ensures ∙ c.told_named-there.ensures.place;
+  there = c.info_in.ensures.told ∙ c.told_named-there.ensures.told;
   sound = c.in_ok-input.ensures.sound;
-  sound_there = c.info_named-2.ensures.sound;
+  sound_there = c.info_in.ensures.sound c.told_named-there.ensures.sound;
 }
