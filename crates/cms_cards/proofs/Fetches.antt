@@ -116,14 +116,14 @@ search_off old new name t words place fault r x is refuses' same so = ⊎_elim n
     other memory =
         refused_so old new name t (search_message words place fault) (pos (search_code fault)) r x (refuses'.does memory) (refuses'.went memory) same so (is memory)
 
--- a read that failed on its device was one of a file that is there
-abbrev fault_of : Result FileData DiskFault → DiskFault
-fault_of (Ok file) = failed.Device
-fault_of (Err fault) = fault
-
-pub not_missing : (r : Result FileData DiskFault) (fault : DiskFault) → r ≡ Err fault → (fault ≡ failed.Device) ⊎ (fault ≡ failed.Altered) → r ≡ Err failed.NotFound → ⊥
-not_missing r fault is (inl device) none = let e : failed.Device ≡ failed.NotFound = sym device ∙ (sym (ap fault_of is) ∙ ap fault_of none) in absurd (cc e)
-not_missing r fault is (inr altered) none = let e : failed.Altered ≡ failed.NotFound = sym altered ∙ (sym (ap fault_of is) ∙ ap fault_of none) in absurd (cc e)
+-- the blocks of a disk may be read
+pub may_read : (old : Spot) (n : ℕ) (d : Accessed) → Some d ≡ option_map (λ (s : Seated). s.disk) (item_at old.state.table.seats n) → (vdev : ℕ)
+    → IfSome (item_at old.state.table.seats n) (λ s. option_map (λ (unit : UnitInfo). unit.vdev) (slice_get old.state.table.units s.letter.unit) ≡ Some vdev)
+    → IsUsable old → (j : _) → old.world.told ≡ Some j → IsReadable j d
+may_read old n d is vdev device usable j told =
+    let seat = seat_with (item_at old.state.table.seats n) d is in
+    let unit = has_device (slice_get old.state.table.units seat.0.letter.unit) vdev (rw seat.1 at device) in
+    subst (λ (a : Accessed). IsReadable j a) seat.2 (readable_seat old.world.told old.state.table n seat.0 unit.0 seat.1 unit.1 usable j told)
 
 -- the data are those of a file that a minidisk has under a name
 data_is : (name : Name) (files : List File) (x : File) (stored : FileData) → file_named name files ≡ Some x → IsDataOf x stored → x ≡ file_with name stored (records_in stored)
@@ -212,13 +212,6 @@ module _ (old : Spot) (name : Name) (n : ℕ) where
         told : IfSome (item_at old.state.table.seats n) (λ s. option_map (λ (unit : UnitInfo). unit.vdev) (slice_get old.state.table.units s.letter.unit) ≡ Some vdev)
             → option_map (λ (unit : UnitInfo). unit.vdev) (slice_get old.state.table.units seat.0.letter.unit) ≡ Some vdev
         told h = rw seat.1 at h
-
-    -- its blocks may be read
-    pub may_read : (vdev : ℕ) → IfSome (item_at old.state.table.seats n) (λ s. option_map (λ (unit : UnitInfo). unit.vdev) (slice_get old.state.table.units s.letter.unit) ≡ Some vdev)
-        → IsUsable old → (j : _) → old.world.told ≡ Some j → IsReadable j d
-    may_read vdev device usable j told =
-        let unit = has_device (slice_get old.state.table.units seat.0.letter.unit) vdev (rw seat.1 at device) in
-        subst (λ (a : Accessed). IsReadable j a) seat.2 (readable_seat old.world.told old.state.table n seat.0 unit.0 seat.1 unit.1 usable j told)
 
     -- its bytes aren't records any more: never where the journal is told
     pub never_altered : OfImage old.world.told d.volume.unit (λ image. GetsIn image d name (Err failed.Altered)) → (units : List Slot) → holds old units → ⊥

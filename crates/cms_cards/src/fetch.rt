@@ -1,8 +1,9 @@
 // A file that is found and read whole, so that it can be punched.
-ghost use Rattle.std.specs.Prelude.{◌≡◌, ◌&&◌, IfOk, false, nat_lt};
+ghost use Rattle.std.specs.Prelude.{◌≡◌, ◌&&◌, IfOk, IsSome, false, nat_lt};
 ghost use Rattle.cms_search.specs.Calls.{Acts, IsUsable, machine_of, spot};
 ghost use Rattle.cms_files.specs.Files.{file_on};
-ghost use Rattle.cms_files.specs.Told.{IsFoundTold};
+ghost use Rattle.cms_files.specs.Told.{IsFoundAt, info_found};
+ghost use Rattle.cms_names.specs.declared.name.Name as names;
 ghost use Rattle.cms_search.specs.Machine.{letter_at};
 ghost use Rattle.cms_cards.specs.Calls.{IsTaken, fetched_of, with_refused};
 ghost use Rattle.cms_cards.specs.Fetch as spec;
@@ -11,7 +12,6 @@ use cms_decks::CARD;
 use cms_disk::{DiskFault, FileData, FileInfo};
 use cms_files::{FileInput, info_found, refuse_unfound};
 use cms_line::{Message, Tokens};
-use cms_names::Name;
 use cms_search::{Course, End, Found, State, refuse, refuse_limit, refuse_unread};
 use cms_world::World;
 use std::alloc::Global;
@@ -59,27 +59,29 @@ fn refused(course: Result<Course, End>) -> Result<Fetched, End>
     }
 }
 
-// Reads the file of a name whole, which is there.
+// Reads a file that a search found whole.
 fn read_whole<W: World>(
     alloc: Global,
     world: &mut W,
     state: &State,
-    letter: u8,
-    name: &Name,
+    found: Found,
 ) -> Result<Fetched, End>
     requires usable { IsUsable (spot W.World world.old state.now) }
-    ensures acts { Acts (spot W.World world.old state.now) (spot W.World world.new state.now)
-        (λ units. spec.read_there (machine_of state.now units) letter
-        (file_on (machine_of state.now units) name.now
-        (letter_at (machine_of state.now units) letter))) result (fetched_of state.now name.now) }
+    requires there { IsSome (info_found state.now.table found) }
+    ensures acts { (name : names.Name) → IsFoundAt state.now.table found name
+        → Acts (spot W.World world.old state.now) (spot W.World world.new state.now)
+        (λ units. spec.read_there (machine_of state.now units) found.letter
+        (file_on (machine_of state.now units) name
+        (letter_at (machine_of state.now units) found.letter)))
+        result (fetched_of state.now name) }
     ensures taken { IfOk result (IsTaken false) }
 {
-    let vdev = state.table.vdev(letter);
-    let Some(disk) = state.table.disk(letter) else {
+    let vdev = state.table.vdev(found.letter);
+    let Some(disk) = state.table.disk(found.letter) else {
         return Err(End::Memory);
     };
-    match disk.get(alloc, world, name) {
-        Ok(file) => Ok(Fetched::File(letter, file)),
+    match disk.get_at(alloc, world, found.place) {
+        Ok(file) => Ok(Fetched::File(found.letter, file)),
         Err(fault) => match fault {
             DiskFault::Device | DiskFault::Altered => {
                 refused(refuse_unread(alloc, world, vdev, fault))
@@ -90,7 +92,7 @@ fn read_whole<W: World>(
     }
 }
 
-// The file of a name that a search found.
+// The file that a search found.
 fn fetch_on<W: World>(
     alloc: Global,
     world: &mut W,
@@ -98,15 +100,15 @@ fn fetch_on<W: World>(
     words: &Tokens,
     place: u8,
     bounds: Bounds,
-    name: &Name,
     found: Found,
 ) -> Result<Fetched, End>
     requires usable { IsUsable (spot W.World world.old state.now) }
-    requires found { IsFoundTold state.now.table found name.now }
-    ensures acts { Acts (spot W.World world.old state.now) (spot W.World world.new state.now)
+    requires there { IsSome (info_found state.now.table found) }
+    ensures acts { (name : names.Name) → IsFoundAt state.now.table found name
+        → Acts (spot W.World world.old state.now) (spot W.World world.new state.now)
         (λ units. spec.fetch_on
-        (machine_of state.now units) words.now place bounds.narrow bounds.full name.now found.letter)
-        result (fetched_of state.now name.now) }
+        (machine_of state.now units) words.now place bounds.narrow bounds.full name found.letter)
+        result (fetched_of state.now name) }
     ensures taken { IfOk result (IsTaken bounds.full) }
 {
     let info = info_found(&state.table, found).unwrap();
@@ -116,7 +118,7 @@ fn fetch_on<W: World>(
     if bounds.full {
         return refused(refuse_limit(alloc, world, DECK_LIMIT));
     }
-    read_whole(alloc, world, state, found.letter, name)
+    read_whole(alloc, world, state, found)
 }
 
 /// The file that a command reads, whose words stand from a place on. It is refused, in this order, where no disk has the letter, where
@@ -138,18 +140,7 @@ pub(crate) fn fetch<W: World>(
     ensures taken { IfOk result (IsTaken bounds.full) }
 {
     match state.table.find_read(&input.name, &input.mode) {
-        Ok(found) => {
-            fetch_on(
-                alloc,
-                world,
-                state,
-                words,
-                place,
-                bounds,
-                &input.name,
-                found,
-            )
-        }
+        Ok(found) => fetch_on(alloc, world, state, words, place, bounds, found),
         Err(fault) => refused(refuse_unfound(alloc, world, words, place, fault)),
     }
 }
