@@ -54,7 +54,7 @@ use Rattle.cms_search.proofs.Released.{vdev_is}
 use Rattle.cms_search.proofs.Stepped.{has_device}
 use Rattle.cms_files.specs.Files.{UnitFile, file_on}
 use Rattle.cms_files.proofs.Found.{found_held}
-use Rattle.cms_files.proofs.OpenedFiles.{none_named, none_on, none_with, seat_with}
+use Rattle.cms_files.proofs.OpenedFiles.{none_on, none_with, seat_with}
 use Rattle.cms_files.proofs.WholeReads.{ReadsAll, comes_read, seen_now, there_is}
 use Rattle.cms_ext.specs.Calls.{desk_of, met_of, met_with}
 use Rattle.cms_ext.specs.Extensions.{Met, getting, read_found, refusing, unfound}
@@ -82,13 +82,6 @@ module _ (old : Spot) (objects : List Object) (name : Name) (n found : ℕ) wher
       → read_tree units ≡ missing units
   no_disk units h none =
       let absent = none_on old.state.table (machine_of old.state units) found name (none_with (item_at old.state.table.seats found) none) (holds_shows old units h) in
-      rw absent refl
-
-  -- or its disk no such file
-  pub no_file : (d : Accessed) (units : List Slot) → holds old units → Some d ≡ option_map (λ (s : Seated). s.disk) (item_at old.state.table.seats found)
-      → place_of name d.volume ≡ None → read_tree units ≡ missing units
-  no_file d units h is none =
-      let absent = none_named old.state.table (machine_of old.state units) found name d is none (holds_shows old units h) in
       rw absent refl
 
   -- so it is refused

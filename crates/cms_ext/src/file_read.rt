@@ -5,6 +5,7 @@ ghost use Rattle.cms_records.specs.Stored.{records_in};
 ghost use Rattle.cms_search.specs.Calls.{IsUsable, spot};
 ghost use Rattle.cms_search.specs.Machine.{letter_at};
 ghost use Rattle.cms_files.specs.Files.{file_on};
+ghost use Rattle.cms_files.specs.Told.{IsFoundAt};
 ghost use Rattle.cms_ext.specs.Calls.{Meets};
 ghost use Rattle.cms_ext.specs.Extensions as spec;
 
@@ -16,7 +17,7 @@ use cms_disk::{DiskFault, FileData};
 use cms_names::Name;
 use cms_operands::ReadMode;
 use cms_records::Records as StoredRecords;
-use cms_search::{End, SearchFault, State, refuse_unread};
+use cms_search::{End, Found, SearchFault, State, refuse_unread};
 use cms_world::World;
 use std::alloc::{AllocError, Global};
 
@@ -32,29 +33,27 @@ fn records_of(alloc: Global, file: &FileData) -> Result<Records, AllocError>
     Ok(records)
 }
 
-// Reads the file of a name whole, which was looked for by one letter, on the disk of another.
+// Reads the file of a name whole, which was looked for by a letter, where the search found it.
 fn read_on<W: World>(
     alloc: Global,
     world: &mut W,
     state: &State,
     name: &Name,
     letter: u8,
-    found: u8,
+    found: Found,
 ) -> Result<Met, End>
     requires usable { IsUsable (spot W.World world.old state.now) }
+    requires found { IsFoundAt state.now.table found name.now }
     ensures { Meets (spot W.World world.old state.now) (spot W.World world.new state.now)
         (λ d. spec.read_found d name.now letter
-        (file_on d.machine name.now (letter_at d.machine found)))
+        (file_on d.machine name.now (letter_at d.machine found.letter)))
         result }
 {
-    let vdev = state.table.vdev(found);
-    let Some(disk) = state.table.disk(found) else {
+    let vdev = state.table.vdev(found.letter);
+    let Some(disk) = state.table.disk(found.letter) else {
         return refuse_unfound(alloc, world, state, name, letter, SearchFault::NotFound);
     };
-    let Some(_) = disk.find(name) else {
-        return refuse_unfound(alloc, world, state, name, letter, SearchFault::NotFound);
-    };
-    match disk.get(alloc, world, name) {
+    match disk.get_at(alloc, world, found.place) {
         Ok(file) => Ok(Met::Told(ExtReply::File(records_of(alloc, &file)?))),
         Err(fault) => match fault {
             DiskFault::Device | DiskFault::Altered => {
@@ -80,7 +79,7 @@ pub(crate) fn get<W: World>(
         (λ d. spec.getting d name.now letter) result }
 {
     match state.table.find_read(name, &ReadMode::Letter(letter)) {
-        Ok(found) => read_on(alloc, world, state, name, letter, found.letter),
+        Ok(found) => read_on(alloc, world, state, name, letter, found),
         Err(fault) => refuse_unfound(alloc, world, state, name, letter, fault),
     }
 }

@@ -1,5 +1,12 @@
+use Rattle.std.proofs.Common.{◌∙◌, sym}
+use Rattle.cms_operands.specs.declared.mode.ReadMode.TheVariants.{Letter}
+use Rattle.cms_files.proofs.FoundTold.{found_there}
 use Rattle.cms_ext.proofs.Gets.{gets_found, gets_unfound}
 use Rattle.cms_ext.proofs.file_read.get.Goals as goal
+
+pub read_on-requires-clause-found : goal.read_on-requires-clause-found
+read_on-requires-clause-found g c =
+    found_there c.args.state.now.table (Letter c.args.letter) c.args.name.now c.in-Ok.found (sym c.find_read.ensures.found ∙ c.in-Ok.is)
 
 pub returns-in-Ok : goal.returns-in-Ok
 returns-in-Ok g c = λ objects.
