@@ -58,7 +58,7 @@ use Rattle.cms_search.proofs.Stepped.{has_device}
 use Rattle.cms_files.specs.Files.{no_file_code}
 use Rattle.cms_files.specs.Identifiers.{exec_kind}
 use Rattle.cms_files.proofs.Found.{found_held}
-use Rattle.cms_files.proofs.OpenedFiles.{none_named, none_on, none_with, seat_with}
+use Rattle.cms_files.proofs.OpenedFiles.{none_on, none_with, seat_with}
 use Rattle.cms_files.proofs.WholeReads.{ReadsAll, comes_read, seen_now, there_is}
 use Rattle.exec2_parse.specs.Procedures.{procedure_of}
 use Rattle.exec2_parse.specs.declared.procedure.ProcFault.{ProcFault}
@@ -105,13 +105,6 @@ module _ (old : Spot) (called : Text) (f : FileName) where
   pub no_disk : (units : List Slot) → holds old units → None ≡ option_map (λ (s : Seated). s.disk) (item_at old.state.table.seats f.letter) → tree units ≡ missing units
   no_disk units h none =
       let absent = none_on old.state.table (machine_of old.state units) f.letter f.name (none_with (item_at old.state.table.seats f.letter) none) (holds_shows old units h) in
-      rw absent refl
-
-  -- or its disk no such file
-  pub no_file : (d : Accessed) (units : List Slot) → holds old units → Some d ≡ option_map (λ (s : Seated). s.disk) (item_at old.state.table.seats f.letter)
-      → place_of f.name d.volume ≡ None → tree units ≡ missing units
-  no_file d units h is none =
-      let absent = none_named old.state.table (machine_of old.state units) f.letter f.name d is none (holds_shows old units h) in
       rw absent refl
 
   -- ---- a file that is there

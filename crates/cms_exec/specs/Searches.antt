@@ -8,11 +8,14 @@ use Rattle.cms_line.specs.declared.token.Token.{Token}
 use Rattle.cms_operands.specs.Operands.{given}
 use Rattle.cms_operands.specs.declared.mode.ReadMode.TheVariants.{Any}
 use Rattle.cms_search.specs.Machine.{Machine}
-use Rattle.cms_search.specs.Searches.{Listed, Shelves, item_at, look_up, shelves_in}
+use Rattle.cms_search.specs.Searches.{Listed, Shelves, found_at, item_at, look_up, shelves_in}
+use Rattle.cms_search.specs.Tables.{Accesses}
 use Rattle.cms_search.specs.declared.fault.SearchFault.{SearchFault}
 use Rattle.cms_search.specs.declared.search.Found.{Found}
 use Rattle.cms_files.specs.Identifiers.{exec_kind}
+use Rattle.cms_files.specs.Told.{IsFoundAt}
 use Rattle.exec2_run.specs.declared.exec.FileName.{FileName}
+use Rattle.cms_exec.specs.declared.search.FoundProcedure.{FoundProcedure}
 
 -- the name of a procedure's file: its type is EXEC
 abbrev pub exec_name : List ℕ → Name
@@ -42,6 +45,10 @@ procedure_in shelves file = found_as shelves (exec_name file) (look_up shelves A
 -- the procedure of a name that is found first over all disks
 abbrev pub procedure_named : Machine → List ℕ → Option FileName
 procedure_named s file = procedure_in (shelves_in s) file
+
+-- its file stands where it was found
+abbrev pub IsThere : Accesses → FoundProcedure → Type 0
+IsThere t f = IsFoundAt t (found_at f.file.letter f.place) f.file.name
 
 -- ---- a procedure that a line's first word names
 

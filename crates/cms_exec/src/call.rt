@@ -3,16 +3,16 @@ ghost use Rattle.std.specs.Prelude.{◌≡◌, IfOk};
 ghost use Rattle.cms_search.specs.Calls.{Acts, IsUsable, machine_of, spot};
 ghost use Rattle.cms_world.specs.Seen.{seen};
 ghost use Rattle.cms_exec.specs.Exec as spec;
+ghost use Rattle.cms_exec.specs.Searches.{IsThere};
 
 use crate::refusals::refuse_no_procedure;
-use crate::search::find_procedure;
+use crate::search::{FoundProcedure, find_procedure};
 use crate::start::{Started, refused, start};
 use cms_line::{Line, Token, Tokens};
 use cms_names::Part;
 use cms_operands::{Refusal, name, needed};
 use cms_search::{End, State, refuse_line};
 use cms_world::World;
-use exec2_run::FileName;
 use std::alloc::{AllocError, Global};
 
 // The line from the word in a place on, as it was given.
@@ -90,13 +90,14 @@ pub fn run_called<W: World>(
     state: &State,
     line: &Line,
     words: &Tokens,
-    found: &FileName,
+    found: &FoundProcedure,
     running: usize,
 ) -> Result<Started, End>
     requires usable { IsUsable (spot W.World world.old state.now) }
+    requires there { IsThere state.now.table found.now }
     ensures { Acts (spot W.World world.old state.now) (spot W.World world.new state.now)
         (λ units. spec.call_command running
-        (machine_of state.now units) line.now words.now found.now)
+        (machine_of state.now units) line.now words.now found.now.file)
         result (spec.started_of state.now) }
 {
     let called = line_from(alloc, 0, line, words.as_slice())?;

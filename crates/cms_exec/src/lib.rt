@@ -9,5 +9,5 @@ mod start;
 
 pub use call::{run_called, run_exec};
 pub use laws::start_laws;
-pub use search::find_called;
+pub use search::{FoundProcedure, find_called};
 pub use start::{MOST_RUNNING, Started};

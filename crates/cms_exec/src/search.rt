@@ -1,5 +1,7 @@
 // Procedures that are found by their names.
-ghost use Rattle.std.specs.Prelude.{◌≡◌};
+ghost use Rattle.std.specs.Prelude.{◌≡◌, IfSome};
+ghost use Rattle.std.specs.Option.{option_map};
+ghost use Rattle.cms_files.specs.Told.{IsFoundAt};
 ghost use Rattle.cms_search.specs.Machine.{Machine};
 ghost use Rattle.cms_search.specs.Shows.{Shows};
 ghost use Rattle.cms_search.specs.Tables.{shelves_of};
@@ -12,21 +14,37 @@ use cms_operands::{ReadMode, given};
 use cms_search::{Found, Table};
 use exec2_run::FileName;
 
+/// A procedure's file where a search found it.
+#[derive(Clone, Copy)]
+pub struct FoundProcedure {
+    /// its name, the letter of its disk and its mode number
+    pub file: FileName,
+    /// its place on the disk, from 0
+    pub place: u32,
+}
+
 // A file that was found, with its letter and its mode number.
-fn file_found(table: &Table, name: Name, found: Found) -> Option<FileName>
-    ensures { result ≡ spec.file_found (shelves_of table.now) name found }
+fn file_found(table: &Table, name: Name, found: Found) -> Option<FoundProcedure>
+    ensures file { option_map (λ f. f.file) result
+        ≡ spec.file_found (shelves_of table.now) name found }
+    ensures there { IsFoundAt table.now found name → IfSome result (spec.IsThere table.now) }
 {
     let info = info_found(table, found)?;
-    Some(FileName {
-        name,
-        letter: found.letter,
-        number: info.number,
+    Some(FoundProcedure {
+        file: FileName {
+            name,
+            letter: found.letter,
+            number: info.number,
+        },
+        place: found.place,
     })
 }
 
 /// The procedure of a name, the first that is found over all disks; none exactly where none is found.
-pub fn find_procedure(table: &Table, file: Part) -> Option<FileName>
-    ensures { (s : Machine) → Shows table.now s → result ≡ spec.procedure_named s file }
+pub fn find_procedure(table: &Table, file: Part) -> Option<FoundProcedure>
+    ensures procedure { (s : Machine) → Shows table.now s
+        → option_map (λ f. f.file) result ≡ spec.procedure_named s file }
+    ensures there { IfSome result (spec.IsThere table.now) }
 {
     let name = Name {
         file,
@@ -52,8 +70,10 @@ fn first_name(words: &[Token]) -> Option<Part>
 }
 
 /// The procedure that a line's first word names; none exactly where that is no valid file name, or no such procedure is found.
-pub fn find_called(table: &Table, words: &[Token]) -> Option<FileName>
-    ensures { (s : Machine) → Shows table.now s → result ≡ spec.called_by s words.now }
+pub fn find_called(table: &Table, words: &[Token]) -> Option<FoundProcedure>
+    ensures procedure { (s : Machine) → Shows table.now s
+        → option_map (λ f. f.file) result ≡ spec.called_by s words.now }
+    ensures there { IfSome result (spec.IsThere table.now) }
 {
     match first_name(words) {
         Some(file) => find_procedure(table, file),

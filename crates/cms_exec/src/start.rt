@@ -7,8 +7,10 @@ ghost use Rattle.cms_search.specs.Calls.{Acts, IsUsable, machine_of, spot};
 ghost use Rattle.cms_world.specs.Seen.{seen};
 ghost use Rattle.exec2_parse.specs.Procedures.{procedure_of};
 ghost use Rattle.cms_exec.specs.Exec as spec;
+ghost use Rattle.cms_exec.specs.Searches.{IsThere};
 
 use crate::refusals::{reason_of, refuse_no_procedure, refuse_not_run};
+use crate::search::FoundProcedure;
 use cms_disk::{DiskFault, FileData};
 use cms_line::Line;
 use cms_search::{Course, End, State, refuse_limit, refuse_unread};
@@ -72,22 +74,20 @@ fn read_found<W: World>(
     world: &mut W,
     state: &State,
     called: &Line,
-    found: &FileName,
+    found: &FoundProcedure,
 ) -> Result<Started, End>
     requires usable { IsUsable (spot W.World world.old state.now) }
+    requires there { IsThere state.now.table found.now }
     ensures { Acts (spot W.World world.old state.now) (spot W.World world.new state.now)
-        (λ units. spec.read_there (machine_of state.now units) called.now found.now) result
+        (λ units. spec.read_there (machine_of state.now units) called.now found.now.file) result
         (spec.started_of state.now) }
 {
-    let vdev = state.table.vdev(found.letter);
-    let Some(disk) = state.table.disk(found.letter) else {
-        return refused(refuse_no_procedure(alloc, world, &found.name.file));
+    let vdev = state.table.vdev(found.file.letter);
+    let Some(disk) = state.table.disk(found.file.letter) else {
+        return refused(refuse_no_procedure(alloc, world, &found.file.name.file));
     };
-    let Some(_) = disk.find(&found.name) else {
-        return refused(refuse_no_procedure(alloc, world, &found.name.file));
-    };
-    match disk.get(alloc, world, &found.name) {
-        Ok(file) => begin(alloc, world, state, called, found, &file),
+    match disk.get_at(alloc, world, found.place) {
+        Ok(file) => begin(alloc, world, state, called, &found.file, &file),
         Err(fault) => match fault {
             DiskFault::Device | DiskFault::Altered => {
                 refused(refuse_unread(alloc, world, vdev, fault))
@@ -105,12 +105,13 @@ pub fn start<W: World>(
     world: &mut W,
     state: &State,
     called: &Line,
-    found: &FileName,
+    found: &FoundProcedure,
     running: usize,
 ) -> Result<Started, End>
     requires usable { IsUsable (spot W.World world.old state.now) }
+    requires there { IsThere state.now.table found.now }
     ensures { Acts (spot W.World world.old state.now) (spot W.World world.new state.now)
-        (λ units. spec.starting running (machine_of state.now units) called.now found.now) result
+        (λ units. spec.starting running (machine_of state.now units) called.now found.now.file) result
         (spec.started_of state.now) }
 {
     if running >= MOST_RUNNING {

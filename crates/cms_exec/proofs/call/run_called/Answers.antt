@@ -16,4 +16,4 @@ returns g c =
     let s = c.args.state.now in
     let words = c.as_slice.ensures in
     subst (λ (text : Text). Acts (spot g.W.World c.args.world.now s) (spot g.W.World c.start.new.world s)
-    (λ units. starting c.args.running (machine_of s units) text c.args.found.now) c.start.result (started_of s)) (rw words at c.in_ok-called.ensures) c.start.ensures
+    (λ units. starting c.args.running (machine_of s units) text c.args.found.now.file) c.start.result (started_of s)) (rw words at c.in_ok-called.ensures) c.start.ensures
