@@ -1,7 +1,7 @@
 -- Copies that are written as a file of the disk of a letter, or added to one.
 use Rattle.std.proofs.Common.{◌≡◌, ◌≢◌, inl, inr, ℕ, ◌+◌, ◌≤◌, false, List, [], ◌++◌, Option, Some, Result, Ok, Err, length, refl, sym, ◌∙◌, ap, subst, arith, append-nil}
 use Rattle.std.specs.Prelude.{⊤, IfErr, IfSome, None, option_map, slice_get}
-use Rattle.std.specs.Option.{ForSome, IsSome}
+use Rattle.std.specs.Option.{ForSome, IsSome, option_and_then}
 use Rattle.std.proofs.lemmas.Option.{same_Some}
 use Rattle.cms_journal.specs.Causes.{Rose}
 use Rattle.cms_journal.specs.declared.event.Attached.{Attached}
@@ -26,7 +26,8 @@ use Rattle.cms_held.specs.Opening.{HeldVolume}
 use Rattle.cms_disk.specs.Additions.{IsMoreFault, MayExtend}
 use Rattle.cms_disk.specs.Changing.{Appends, Changes, ChangesDisk, IsDevices}
 use Rattle.cms_disk.specs.Cursors.{Reading}
-use Rattle.cms_disk.specs.Disks.{Accessed}
+use Rattle.cms_disk.specs.Disks.{Accessed, place_of}
+use Rattle.cms_files.specs.Told.{place_named}
 use Rattle.cms_disk.specs.Drafts.{GoesOn, HaveCounts, IsDraftFault, IsFor, IsGivenUp, IsSameDraft, WritesAside}
 use Rattle.cms_disk.specs.declared.unit.UnitInfo.{UnitInfo}
 use Rattle.cms_disk.specs.declared.fault.DiskFault.{DiskFault}
@@ -151,8 +152,9 @@ unfinished w d draft never = record { came = λ start m change stamp all goes. n
 -- ---- what may be called
 
 may_write : (told : Told) (t : Accesses) (n : ℕ) (s : Seated) (unit : UnitInfo) (to : CopyTarget) → item_at t.seats n ≡ Some s → slice_get t.units s.letter.unit ≡ Some unit → Usable told t
-    → FitsVolume to.write s.disk.volume to.name to.shape → MayWrite told s.disk to
-may_write told t n s unit to at has usable fits = record {
+    → to.there ≡ place_of to.name s.disk.volume → FitsVolume to.write s.disk.volume to.name to.shape → MayWrite told s.disk to
+may_write told t n s unit to at has usable there fits = record {
+  there = there;
   fits = fits;
   blocks = readable_seat told t n s unit at has usable;
   writable = λ may j is.
@@ -161,11 +163,13 @@ may_write told t n s unit to at has usable fits = record {
 }
 
 pub may_at : (told : Told) (t : Accesses) (n vdev : ℕ) (to : CopyTarget) → HasDevice t n vdev → Usable told t
-    → ForSome (item_at t.seats n) (λ s. FitsVolume to.write s.disk.volume to.name to.shape) → ForSome (item_at t.seats n) (λ s. MayWrite told s.disk to)
-may_at told t n vdev to device usable fits = λ s at.
+    → to.there ≡ place_named t n to.name → ForSome (item_at t.seats n) (λ s. FitsVolume to.write s.disk.volume to.name to.shape)
+    → ForSome (item_at t.seats n) (λ s. MayWrite told s.disk to)
+may_at told t n vdev to device usable place fits = λ s at.
+    let found : to.there ≡ place_of to.name s.disk.volume = place ∙ ap (λ (x : Option Seated). option_and_then (λ (y : Seated). place_of to.name y.disk.volume) x) at in
     let there = if_some (item_at t.seats n) (λ (x : Seated). option_map (λ (unit : UnitInfo). unit.vdev) (slice_get t.units x.letter.unit) ≡ Some vdev) s at device in
     let unit = has_device (slice_get t.units s.letter.unit) vdev there in
-    may_write told t n s unit.0 to at unit.1 usable (fits s at)
+    may_write told t n s unit.0 to at unit.1 usable found (fits s at)
 
 -- a letter that may be written has a disk
 pub written_there : (t : Accesses) (n : ℕ) → writing (item_at (letters_of t) n) n ≡ Ok tt → IsSome (item_at t.seats n)
@@ -388,7 +392,11 @@ pub fits_whole : (v : HeldVolume) (to : CopyTarget) → to.write ≡ Whole → F
 fits_whole v to is fits = subst (λ (k : CopyWrite). FitsVolume k v to.name to.shape) is fits
 
 pub fits_more : (v : HeldVolume) (to : CopyTarget) → to.write ≡ Added → FitsVolume to.write v to.name to.shape → MayExtend v to.name to.shape
-fits_more v to is fits = subst (λ (k : CopyWrite). FitsVolume k v to.name to.shape) is fits
+fits_more v to is fits = (subst (λ (k : CopyWrite). FitsVolume k v to.name to.shape) is fits).1
+
+-- the file that is extended is there
+pub some_there : (v : HeldVolume) (to : CopyTarget) → to.write ≡ Added → to.there ≡ place_of to.name v → FitsVolume to.write v to.name to.shape → IsSome to.there
+some_there v to is there fits = subst (λ (o : Option ℕ). IsSome o) (sym there) (subst (λ (k : CopyWrite). FitsVolume k v to.name to.shape) is fits).0
 
 -- ---- a file that is written
 

@@ -1,6 +1,6 @@
 -- Copies that are written as a file of the disk of a letter, or added to one.
 use Rattle.std.specs.Prelude.{◌≡◌, ℕ, true, List, [], Option, Some, Result, Ok, Err, IfErr, IfOk, ⊤}
-use Rattle.std.specs.Option.{ForSome}
+use Rattle.std.specs.Option.{ForSome, IsSome}
 use Rattle.cms_journal.specs.Journal.{Journal, IsWritable}
 use Rattle.cms_journal.specs.Told.{Told}
 use Rattle.cms_names.specs.declared.name.Name.{Name}
@@ -17,7 +17,7 @@ use Rattle.cms_edf.specs.OpeningSteps.{OfImage}
 use Rattle.cms_disk.specs.Additions.{HaveShapeBehind, MayExtend}
 use Rattle.cms_disk.specs.Changing.{Appends, ChangesDisk}
 use Rattle.cms_disk.specs.Cursors.{HasLeft, Reading}
-use Rattle.cms_disk.specs.Disks.{Accessed, IsMinidisk, IsReadable}
+use Rattle.cms_disk.specs.Disks.{Accessed, IsMinidisk, IsReadable, place_of}
 use Rattle.cms_disk.specs.Drafts.{GoesOn, IsGivenUp, file_with}
 use Rattle.cms_disk.specs.declared.fault.DiskFault.{DiskFault}
 use Rattle.cms_disk.specs.declared.fault.DiskFault.TheVariants as failed
@@ -52,7 +52,7 @@ HaveRecords Added there shape all = (file : File) × (there ≡ Some file) × Ha
 -- a volume may have a file of this name and shape, or the one that it has can become one
 abbrev pub FitsVolume : CopyWrite → HeldVolume → Name → DraftShape → Type 0
 FitsVolume Whole v name shape = CanDraft shape
-FitsVolume Added v name shape = MayExtend v name shape
+FitsVolume Added v name shape = IsSome (place_of name v) × MayExtend v name shape
 
 -- ---- what it comes to
 
@@ -97,6 +97,7 @@ answer_in Altered = Err failed.Altered
 
 -- a disk's blocks may be read, and written where the disk may be; what is to be written fits it
 pub record MayWrite (told : Told) (d : Accessed) (to : CopyTarget) : Type 0 where
+  pub there : to.there ≡ place_of to.name d.volume
   pub fits : FitsVolume to.write d.volume to.name to.shape
   pub blocks : ForSome told (λ j. IsReadable j d)
   pub writable : d.writable ≡ true → ForSome told (λ j. IsWritable j.units d.volume.unit)

@@ -35,6 +35,8 @@ pub struct CopyTarget {
     /// the letter of its disk, A is 0
     pub letter: u8,
     pub name: Name,
+    /// the place of the file of that name, if it is there already
+    pub there: Option<u32>,
     pub write: CopyWrite,
     /// that of the whole file
     pub shape: DraftShape,
@@ -124,9 +126,14 @@ fn plan_target<W: World>(
         table.old table.new s to.now result) }
 {
     match to.write {
-        CopyWrite::Whole => table.draft(alloc, to.letter, &to.name, &to.shape, &to.stamp),
+        CopyWrite::Whole => {
+            table.draft(alloc, to.letter, to.there, &to.name, &to.shape, &to.stamp)
+        }
         CopyWrite::Added => {
-            table.draft_more(alloc, world, to.letter, &to.name, &to.shape, &to.stamp)
+            let place = to.there.unwrap();
+            table.draft_more(
+                alloc, world, to.letter, place, &to.name, &to.shape, &to.stamp,
+            )
         }
     }
 }

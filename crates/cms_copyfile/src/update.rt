@@ -65,6 +65,8 @@ fn put_copied<W: World>(
         ≡ named.place_named state.old.table file.now.found.letter file.now.found.name }
     requires told { Some file.now.input
         ≡ named.info_named state.old.table file.now.found.letter file.now.found.name }
+    requires there { file.now.there_place
+        ≡ named.place_named state.old.table file.now.letter file.now.name }
     requires fits { ForSome (item_at state.old.table.seats file.now.letter)
         (λ s. FitsVolume write s.disk.volume file.now.name shape.now) }
     requires size { (most : ℕ) → most ≤ longest_record
@@ -87,6 +89,7 @@ fn put_copied<W: World>(
     let to = CopyTarget {
         letter: file.letter,
         name: file.name,
+        there: file.there_place,
         write,
         shape: *shape,
         stamp: Stamp::of(&state.moment),

@@ -1,5 +1,5 @@
 -- Records that are added to a file, where a read failed first.
-use Rattle.std.proofs.Common.{◌≡◌, inl, inr, ⊎_elim, ℕ, false, List, [], ◌∷◌, Option, None, Result, Ok, Err, refl, sym, ◌∙◌, ap, subst, arith}
+use Rattle.std.proofs.Common.{◌≡◌, inl, inr, ⊎_elim, ℕ, false, List, [], ◌∷◌, Option, None, Result, Ok, Err, refl, sym, ap, subst, arith}
 use Rattle.std.specs.Prelude.{unwrap_or, ⊤}
 use Rattle.cms_world.specs.Seen.{ChangesUnits, OnlyReads, Seen}
 use Rattle.cms_journal.specs.declared.event.Event.{Event}
@@ -118,22 +118,8 @@ pub device_fault : (d : Accessed) (name : Name) (more : FileData) (shape : Draft
 device_fault d name more shape s room e (inl is) = subst (IsAddFault d name more) (sym is) (not_extended d name more shape s failed.Device room)
 device_fault d name more shape s room e (inr is) = subst (IsAddFault d name more) (sym is) (not_extended d name more shape s failed.Device room)
 
--- a draft of them is refused as none is there only where none is
-pub fault_missing : (d : Accessed) (name : Name) (shape : DraftShape) (e : DiskFault) → IsMoreFault d name shape e → e ≡ failed.NotFound → place_of name d.volume ≡ None
-fault_missing d name shape e fault is = subst (IsMoreFault d name shape) is fault
-
 pub fault_locked : (d : Accessed) (name : Name) (shape : DraftShape) (e : DiskFault) → IsMoreFault d name shape e → e ≡ failed.ReadOnly → d.writable ≡ false
 fault_locked d name shape e fault is = subst (IsMoreFault d name shape) is fault
-
-pub not_missing : (e : DiskFault) → IsDevices e → e ≡ failed.NotFound → ⊥
-not_missing e (inl is) same = clash (sym is ∙ same)
-  where
-    clash : failed.Device ≡ failed.NotFound → ⊥
-    clash at = cc
-not_missing e (inr is) same = clash (sym is ∙ same)
-  where
-    clash : failed.InDoubt ≡ failed.NotFound → ⊥
-    clash at = cc
 
 -- ---- what is done where no draft is made
 

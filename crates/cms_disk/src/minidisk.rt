@@ -109,6 +109,7 @@ impl Minidisk {
         requires { nth < length self.now.volume.files }
         ensures info { slice_get (infos_in self.now.volume) nth ≡ Some result }
         ensures sound { IsFileInfo result }
+        ensures kept { Keeps self.now.volume }
     {
         self.held.info(nth)
     }

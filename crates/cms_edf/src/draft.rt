@@ -265,9 +265,39 @@ pub fn plan_draft(
     ensures places { held.old.spare ≤ held.new.spare }
 {
     let place = held.find(name);
+    plan_draft_at(alloc, held, place, name, asked, stamp)
+}
+
+/// Plans a file of a name, as `plan_draft` does, where the place of the file of that name is known, or that there is none.
+pub fn plan_draft_at(
+    alloc: Global,
+    held: &mut Held,
+    place: Option<u32>,
+    name: &Name,
+    asked: &DraftShape,
+    stamp: &Stamp,
+) -> Result<Draft, PlanFault>
+    requires stamp { is_stamp stamp.now ≡ true }
+    requires asked { CanDraft asked.now }
+    requires place { place
+        ≡ position (same_name name.now) (names_in held.old.volume.files) }
+    ensures planned { IfOk result (IsDraftFor held.old.volume name.now asked.now stamp.now) }
+    ensures some { IfOk result (IsSomeDraft held.new.volume) }
+    ensures fresh { IfOk result (λ d.
+        IsFresh held.old.volume.unit held.old.volume.disk.bsize asked.now (tree_of d) d.writer) }
+    ensures refused { IfErr result (IsRefused held.old.volume name.now asked.now) }
+    ensures limited { (which : ℕ) → limit_put
+        (count_put held.old.volume name.now) asked.now.count asked.now.bytes ≡ Some which
+        → result ≡ Err (Limit which) }
+    ensures kept { Keeps held.old.volume }
+    ensures volume { held.new.volume ≡ held.old.volume }
+    ensures spare { OnOk result (1 ≤ held.new.spare) }
+    ensures places { held.old.spare ≤ held.new.spare }
+{
+    let count = held.count();
     let files = match place {
-        Some(_) => held.count(),
-        None => held.count() + 1,
+        Some(_) => count,
+        None => count + 1,
     };
     if let Some(which) = passed_limit(files, asked) {
         return Err(PlanFault::Limit(which));

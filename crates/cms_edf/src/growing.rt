@@ -1,16 +1,15 @@
 // A file that is written on behind its records: it keeps its full data blocks, and the pointer blocks that end within these.
-ghost use Rattle.std.specs.Prelude.{◌≡◌, ℕ, List, [], ◌≤◌, ◌<◌, ◌+◌, ◌-◌, ◌*◌, ◌/◌, ◌%◌, ◌^◌, ◌++◌, true, Some, None, Err, IsSome, length, replicate, take, position, slice_get, slice_index, IfOk, IfErr, OnOk};
+ghost use Rattle.std.specs.Prelude.{◌≡◌, ℕ, List, [], ◌≤◌, ◌<◌, ◌+◌, ◌-◌, ◌*◌, ◌/◌, ◌%◌, ◌^◌, ◌++◌, true, Some, None, Err, length, replicate, take, slice_get, slice_index, IfOk, IfErr, OnOk};
 ghost use Rattle.std.specs.Option.{ForSome};
 ghost use Rattle.cms_journal.specs.Journal.{HasBlock, HasBlocks, contents_of};
 ghost use Rattle.cms_fields.specs.Limits.{most_bytes};
 ghost use Rattle.cms_fields.specs.Stamps.{is_stamp};
-ghost use Rattle.cms_model.specs.Minidisks.{same_name};
 ghost use Rattle.cms_model.specs.Trees.{image_of};
 ghost use Rattle.cms_held.specs.Drafts.{Front, filled};
 ghost use Rattle.cms_tree.specs.Paths.{fresh_places};
 ghost use Rattle.cms_held.specs.Growing.{places_behind};
 ghost use Rattle.cms_held.specs.Kept.{IsKeptFile, Keeps};
-ghost use Rattle.cms_held.specs.Opening.{HeldFile, names_in};
+ghost use Rattle.cms_held.specs.Opening.{HeldFile};
 ghost use Rattle.cms_held.specs.Putting.{limit_put};
 ghost use Rattle.cms_draft.specs.Continuing.{HaveShapeOn};
 ghost use Rattle.cms_draft.specs.Drafting.{Drafts};
@@ -294,8 +293,8 @@ fn begin<W: World>(
     })
 }
 
-/// Plans the addition of records to the file of a name: all that is written then but its own blocks, and all memory that the update needs.
-/// `asked` is what the whole file is to be; only the added records are put then. The file keeps its full data blocks, and the pointer blocks
+/// Plans the addition of records to the file of a name, which has this place: all that is written then but its own blocks, and all memory
+/// that the update needs. `asked` is what the whole file is to be; only the added records are put then. The file keeps its full data blocks, and the pointer blocks
 /// that end within these.
 ///
 /// Nothing is written, and the volume stays as it is held. `Limit` comes exactly where the file would pass one, the lowest of them; else
@@ -304,15 +303,13 @@ pub fn plan_more<W: World>(
     alloc: Global,
     world: &mut W,
     held: &mut Held,
+    place: u32,
     name: &Name,
     asked: &DraftShape,
     stamp: &Stamp,
 ) -> Result<Draft, MoreFault>
     requires stamp { is_stamp stamp.now ≡ true }
-    requires grows { (place : ℕ) → position (same_name name.now) (names_in held.old.volume.files)
-        ≡ Some place
-        → CanGrow held.old.volume name.now place asked.now }
-    requires there { IsSome (position (same_name name.now) (names_in held.old.volume.files)) }
+    requires grows { CanGrow held.old.volume name.now place asked.now }
     requires blocks { ForSome (W.told world.old)
         (λ j. HasBlocks j.units held.old.volume.unit held.old.volume.disk.count
         held.old.volume.disk.bsize) }
@@ -342,7 +339,6 @@ pub fn plan_more<W: World>(
     let Ok(()) = held.reserve() else {
         return Err(MoreFault::Memory);
     };
-    let place = held.place(name);
     let planned = plan_growth(alloc, held, place, name, asked, stamp)?;
     let begun = begin(alloc, world, held, place, &planned.growth)?;
     let put = held.files[place as usize].entry.count;

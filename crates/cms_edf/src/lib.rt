@@ -39,7 +39,7 @@ pub use cms_held::{
 pub use cms_model::{FileData, OpenFault, Stored, VarFault};
 pub use committing::commit;
 pub use doubt::Doubt;
-pub use draft::{Draft, plan_draft};
+pub use draft::{Draft, plan_draft, plan_draft_at};
 pub use growing::{MoreFault, plan_more};
 pub use held::{FileHeld, FileInfo, Held, Space};
 pub use making::{MakePlan, make, plan_make, wipe};

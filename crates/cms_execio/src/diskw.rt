@@ -21,7 +21,7 @@ use crate::line::WriteTarget;
 use crate::record::gather_lines;
 use cms_disk::{FileData, FileInfo};
 use cms_fields::Stamp;
-use cms_files::{info_named, refuse_unfound, write_last};
+use cms_files::{ToldFile, refuse_unfound, told_named, write_last};
 use cms_line::{Line, Lines, Tokens};
 use cms_names::Format;
 use cms_search::{Course, End, FileWrite, State};
@@ -137,19 +137,22 @@ fn write_more<W: World>(
     state: &mut State,
     target: &WriteTarget,
     lines: &Lines,
-    info: &FileInfo,
+    there: &ToldFile,
 ) -> Result<Course, End>
     requires usable { IsUsable (spot W.World world.old state.old) }
     requires writing { writing (item_at (letters_of state.old.table) target.now.mode.letter)
         target.now.mode.letter ≡ Ok tt }
     requires some { 1 ≤ length lines.now }
+    requires place { named.place_named state.old.table target.now.mode.letter target.now.name
+        ≡ Some there.now.place }
     requires there { named.info_named state.old.table target.now.mode.letter target.now.name
-        ≡ Some info.now }
-    requires sound { IsFileInfo info.now }
+        ≡ Some there.now.info }
+    requires sound { IsFileInfo there.now.info }
     requires moment { is_moment state.old.moment ≡ true }
     ensures acts { Acts (spot W.World world.old state.old) (spot W.World world.new state.new)
         (λ units. last_update (machine_of state.old units) target.now.mode.letter
-        (Add target.now.name (records_of info.now.format info.now.length lines.now)
+        (Add target.now.name
+        (records_of there.now.info.format there.now.info.length lines.now)
         (stamp_of state.old.moment)))
         result (course_of state.new) }
     ensures kept { state.new ≡ record state.old {
@@ -158,14 +161,14 @@ fn write_more<W: World>(
     } }
 {
     let stamp = Stamp::of(&state.moment);
-    let more = more_records(alloc, lines, info, &stamp)?;
+    let more = more_records(alloc, lines, &there.info, &stamp)?;
     write_last(
         alloc,
         world,
         state,
         target.mode.letter,
         &target.name,
-        FileWrite::Append(&more),
+        FileWrite::Append(there.place, &more),
     )
 }
 
@@ -190,8 +193,8 @@ fn write_all<W: World>(
       places = state.new.places;
     } }
 {
-    match info_named(&state.table, target.mode.letter, &target.name) {
-        Some(info) => write_more(alloc, world, state, target, lines, &info),
+    match told_named(&state.table, target.mode.letter, &target.name) {
+        Some(there) => write_more(alloc, world, state, target, lines, &there),
         None => write_anew(alloc, world, state, target, lines),
     }
 }

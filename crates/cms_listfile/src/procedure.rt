@@ -21,7 +21,7 @@ use crate::columns::Columns;
 use crate::found_lines::listed_at;
 use cms_disk::{FileData, FileInfo};
 use cms_fields::Stamp;
-use cms_files::{Gathered, exec_kind, info_named, write_last};
+use cms_files::{Gathered, ToldFile, exec_kind, told_named, write_last};
 use cms_names::{Format, Name, Part};
 use cms_operands::coded;
 use cms_search::{Course, End, FileWrite, Found, State, Table};
@@ -179,20 +179,23 @@ fn write_more<W: World>(
     state: &mut State,
     last: Columns,
     found: &[Found],
-    info: &FileInfo,
+    there: &ToldFile,
 ) -> Result<Course, End>
     requires usable { IsUsable (spot W.World world.old state.old) }
     requires writing { writing (item_at (letters_of state.old.table) spec.disk_a) spec.disk_a
         ≡ Ok tt }
+    requires place { named.place_named state.old.table spec.disk_a spec.written_name
+        ≡ Some there.now.place }
     requires there { named.info_named state.old.table spec.disk_a spec.written_name
-        ≡ Some info.now }
+        ≡ Some there.now.info }
     requires some { told.HasLines last state.old.table found.now }
-    requires sound { IsFileInfo info.now }
+    requires sound { IsFileInfo there.now.info }
     requires moment { is_moment state.old.moment ≡ true }
     ensures acts { Acts (spot W.World world.old state.old) (spot W.World world.new state.new)
         (λ units. last_update (machine_of state.old units) spec.disk_a
         (spec.added_lines (machine_of state.old units)
-        info.now.format info.now.length (lines_of (machine_of state.old units) last found.now)))
+        there.now.info.format there.now.info.length
+        (lines_of (machine_of state.old units) last found.now)))
         result (course_of state.new) }
     ensures kept { state.new ≡ record state.old {
       table = state.new.table;
@@ -200,14 +203,14 @@ fn write_more<W: World>(
     } }
 {
     let stamp = Stamp::of(&state.moment);
-    let more = more_lines(alloc, &state.table, last, found, info, &stamp)?;
+    let more = more_lines(alloc, &state.table, last, found, &there.info, &stamp)?;
     write_last(
         alloc,
         world,
         state,
         DISK_A,
         &written_name(),
-        FileWrite::Append(&more),
+        FileWrite::Append(there.place, &more),
     )
 }
 
@@ -237,8 +240,8 @@ pub fn write_listing<W: World>(
     if !append {
         return write_anew(alloc, world, state, last, found);
     }
-    match info_named(&state.table, DISK_A, &written_name()) {
-        Some(info) => write_more(alloc, world, state, last, found, &info),
+    match told_named(&state.table, DISK_A, &written_name()) {
+        Some(there) => write_more(alloc, world, state, last, found, &there),
         None => write_anew(alloc, world, state, last, found),
     }
 }

@@ -1,5 +1,5 @@
 -- Files that are drafted for the disk of a letter.
-use Rattle.std.specs.Prelude.{◌≡◌, ℕ, ◌≤◌, true, List, [], Result, IfErr, IfOk, ⊤}
+use Rattle.std.specs.Prelude.{◌≡◌, ℕ, ◌≤◌, true, List, [], Some, Result, IfErr, IfOk, ⊤}
 use Rattle.std.specs.Option.{ForSome}
 use Rattle.cms_journal.specs.Journal.{IsWritable}
 use Rattle.cms_journal.specs.Told.{Told}
@@ -12,7 +12,7 @@ use Rattle.cms_world.specs.Seen.{OnlyReads, Seen}
 use Rattle.cms_edf.specs.FileDrafts.{FileDraft, IsSomeDraft}
 use Rattle.cms_disk.specs.Additions.{AnswersMore, BeginsMore, IsMoreFault, MayExtend}
 use Rattle.cms_disk.specs.Changing.{Alters, ChangesDisk, IsDevices}
-use Rattle.cms_disk.specs.Disks.{Accessed, IsReadable}
+use Rattle.cms_disk.specs.Disks.{Accessed, IsReadable, place_of}
 use Rattle.cms_disk.specs.Drafts.{AnswersDraft, BeginsPut, GoesOn, IsDraftFault}
 use Rattle.cms_disk.specs.declared.fault.DiskFault.{DiskFault}
 use Rattle.cms_disk.specs.declared.fault.DiskFault.TheVariants.{Device}
@@ -37,8 +37,9 @@ pub record DraftsTo (d e : Accessed) (name : Name) (shape : DraftShape) (stamp :
 abbrev pub DraftsSeat : Accesses → Accesses → ℕ → Seated → Name → DraftShape → Stamp → Result FileDraft DiskFault → Type 0
 DraftsSeat t t' n s name shape stamp result = HasDisk t t' n (λ e. DraftsTo s.disk e name shape stamp result)
 
--- the file of the name can have the shape, and the disk's blocks may be read
-pub record MayDraftMore (told : Told) (d : Accessed) (name : Name) (shape : DraftShape) : Type 0 where
+-- the file of the name, which has this place, can have the shape, and the disk's blocks may be read
+pub record MayDraftMore (told : Told) (d : Accessed) (place : ℕ) (name : Name) (shape : DraftShape) : Type 0 where
+  pub there : place_of name d.volume ≡ Some place
   pub extends : MayExtend d.volume name shape
   pub blocks : ForSome told (λ j. IsReadable j d)
 

@@ -4,6 +4,7 @@ ghost use Rattle.std.specs.Option.{ForSome};
 ghost use Rattle.cms_fields.specs.Stamps.{is_stamp};
 ghost use Rattle.cms_world.specs.Seen.{seen};
 ghost use Rattle.cms_edf.specs.FileDrafts.{CanDraft};
+ghost use Rattle.cms_disk.specs.Disks.{place_of};
 ghost use Rattle.cms_disk.specs.Drafts.{IsFull};
 ghost use Rattle.cms_search.specs.Drafts.{CommitsSeat, CommitsTo, DraftsMoreSeat, DraftsSeat, MayCommit, MayDraftMore};
 ghost use Rattle.cms_search.specs.Searches.{item_at};
@@ -26,11 +27,13 @@ fn commit_draft<W: World>(world: &mut W, disk: &mut Minidisk, draft: Draft) -> R
 }
 
 impl Table {
-    /// Plans a file for the disk of an accessed letter, as `Minidisk`'s call does. Nothing is written, and the disk stays as it is.
+    /// Plans a file for the disk of an accessed letter, where the place of the file of that name is known, or that there is none, as
+    /// `Minidisk`'s call does. Nothing is written, and the disk stays as it is.
     pub fn draft(
         &mut self,
         alloc: Global,
         letter: u8,
+        there: Option<u32>,
         name: &Name,
         shape: &DraftShape,
         stamp: &Stamp,
@@ -38,32 +41,35 @@ impl Table {
         requires accessed { IsSome (item_at self.old.seats letter) }
         requires stamp { is_stamp stamp.now ≡ true }
         requires shape { CanDraft shape.now }
+        requires there { ForSome (item_at self.old.seats letter)
+            (λ s. there ≡ place_of name.now s.disk.volume) }
         ensures { IfSome (item_at self.old.seats letter)
             (λ s. DraftsSeat self.old self.new letter s name.now shape.now stamp.now result) }
     {
         match &mut self.seats[letter as usize] {
             Some(seat) => {
                 seat.reading = None;
-                seat.disk.draft(alloc, name, shape, stamp)
+                seat.disk.draft_at(alloc, there, name, shape, stamp)
             }
             None => unreachable!(),
         }
     }
 
-    /// Plans the addition of records to a file of the disk of an accessed letter, as `Minidisk`'s call does. Nothing is written, and the
-    /// disk stays as it is.
+    /// Plans the addition of records to the file of a name on the disk of an accessed letter, which has this place, as `Minidisk`'s call
+    /// does. Nothing is written, and the disk stays as it is.
     pub fn draft_more<W: World>(
         &mut self,
         alloc: Global,
         world: &mut W,
         letter: u8,
+        place: u32,
         name: &Name,
         shape: &DraftShape,
         stamp: &Stamp,
     ) -> Result<Draft, DiskFault>
         requires accessed { IsSome (item_at self.old.seats letter) }
         requires may { ForSome (item_at self.old.seats letter)
-            (λ s. MayDraftMore (W.told world.old) s.disk name.now shape.now) }
+            (λ s. MayDraftMore (W.told world.old) s.disk place name.now shape.now) }
         requires stamp { is_stamp stamp.now ≡ true }
         ensures { IfSome (item_at self.old.seats letter)
             (λ s. DraftsMoreSeat (seen W.World world.old) (seen W.World world.new)
@@ -72,7 +78,8 @@ impl Table {
         match &mut self.seats[letter as usize] {
             Some(seat) => {
                 seat.reading = None;
-                seat.disk.draft_more(alloc, world, name, shape, stamp)
+                seat.disk
+                    .draft_more(alloc, world, place, name, shape, stamp)
             }
             None => unreachable!(),
         }

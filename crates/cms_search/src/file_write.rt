@@ -25,8 +25,8 @@ use std::alloc::Global;
 pub enum FileWrite<'u> {
     /// the file: it takes the place of the one of its name, or stands last
     Put(&'u FileData),
-    /// records that are added to the file of a name, of its format and, where all have one length, its length
-    Append(&'u FileData),
+    /// records that are added to the file of a name, which has this place, of its format and, where all have one length, its length
+    Append(u32, &'u FileData),
 }
 
 // Updates a file of a minidisk.
@@ -48,7 +48,7 @@ fn update_minidisk<W: World>(
 {
     match update {
         FileWrite::Put(file) => disk.put(alloc, world, name, file, stamp),
-        FileWrite::Append(more) => disk.append(alloc, world, name, more, stamp),
+        FileWrite::Append(place, more) => disk.append(alloc, world, place, name, more, stamp),
     }
 }
 

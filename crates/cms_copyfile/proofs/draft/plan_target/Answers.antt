@@ -1,9 +1,10 @@
+use Rattle.std.proofs.Common.{◌∙◌, sym}
 use Rattle.cms_world.specs.Seen.{seen}
 use Rattle.cms_disk.specs.Disks.{Accessed}
 use Rattle.cms_search.specs.Drafts.{DraftsMoreTo, DraftsTo}
 use Rattle.cms_search.specs.Tables.{Seated}
 use Rattle.cms_copyfile.specs.Drafts.{PlansTo}
-use Rattle.cms_copyfile.proofs.Writes.{disk_so, fits_more, fits_whole, planned_more, planned_whole, some_seat}
+use Rattle.cms_copyfile.proofs.Writes.{disk_so, fits_more, fits_whole, planned_more, planned_whole, some_seat, some_there}
 use Rattle.cms_copyfile.proofs.draft.plan_target.Goals as goal
 
 pub draft-requires-clause-shape : goal.draft-requires-clause-shape
@@ -11,10 +12,19 @@ draft-requires-clause-shape g c =
     let s = some_seat _ c.requires.accessed in
     fits_whole s.0.disk.volume c.args.to.now c.in-Whole.is (c.requires.may s.0 s.1).fits
 
+pub draft-requires-clause-there : goal.draft-requires-clause-there
+draft-requires-clause-there g c = λ s at. (c.requires.may s at).there
+
+pub unwrap-place-requires : goal.unwrap-place-requires
+unwrap-place-requires g c =
+    let s = some_seat _ c.requires.accessed in
+    let may = c.requires.may s.0 s.1 in
+    some_there s.0.disk.volume c.args.to.now c.in-Added.is may.there may.fits
+
 pub draft_more-requires-clause-may : goal.draft_more-requires-clause-may
 draft_more-requires-clause-may g c = λ s at.
     let may = c.requires.may s at in
-    record { extends = fits_more s.disk.volume c.args.to.now c.in-Added.is may.fits; blocks = may.blocks }
+    record { there = sym may.there ∙ c.unwrap-place.ensures; extends = fits_more s.disk.volume c.args.to.now c.in-Added.is may.fits; blocks = may.blocks }
 
 pub returns-in-Whole : goal.returns-in-Whole
 returns-in-Whole g c =

@@ -1,9 +1,12 @@
-use Rattle.std.proofs.Common.{◌≡◌, ◌∙◌, Some, ap, sym, subst, arith}
-use Rattle.std.specs.Prelude.{IfSome, Option}
+use Rattle.std.proofs.Common.{◌≡◌, ◌∙◌, ℕ, Some, ap, sym, subst, arith}
+use Rattle.std.specs.Prelude.{IfSome, IsSome, Option}
+use Rattle.std.specs.Option.{option_and_then}
 use Rattle.cms_edf.specs.declared.held.FileInfo.{FileInfo}
 use Rattle.cms_fields.specs.Stamps.{is_stamp}
-use Rattle.cms_disk.specs.Disks.{IsFileInfo}
+use Rattle.cms_disk.specs.Disks.{IsFileInfo, place_of}
 use Rattle.cms_search.specs.Calls.{spot}
+use Rattle.cms_search.specs.Tables.{Seated}
+use Rattle.cms_files.proofs.FoundTold.{named_placed}
 use Rattle.cms_copyfile.specs.Outputs.{extended}
 use Rattle.cms_copyfile.specs.declared.line.Existing.{Existing}
 use Rattle.cms_copyfile.proofs.AddShaped.{added_as}
@@ -39,11 +42,19 @@ extended_shape-shape-requires-clause-count g c =
 pub put_copied-requires-clause-place : goal.put_copied-requires-clause-place
 put_copied-requires-clause-place g c = c.requires.file.place
 
+pub put_copied-requires-clause-there : goal.put_copied-requires-clause-there
+put_copied-requires-clause-there g c = c.requires.file.there_place
+
 pub put_copied-requires-clause-told : goal.put_copied-requires-clause-told
 put_copied-requires-clause-told g c = c.requires.file.input
 
 pub put_copied-requires-clause-fits : goal.put_copied-requires-clause-fits
-put_copied-requires-clause-fits g c = c.extended_shape-shape.ensures.fits
+put_copied-requires-clause-fits g c = λ s at.
+    let f = c.args.file.now in
+    let own = c.args.own.now in
+    let told = sym (extended_there c.args.line.now.style.existing f.there own c.requires.own) ∙ c.requires.file.there in
+    let some = named_placed c.args.state.now.table f.letter f.name own told in
+    (subst (λ (o : Option ℕ). IsSome o) (ap (λ (x : Option Seated). option_and_then (λ (y : Seated). place_of f.name y.disk.volume) x) at) some, c.extended_shape-shape.ensures.fits s at)
 
 pub returns-clause-acts : goal.returns-clause-acts
 returns-clause-acts g c = λ before words read measures.

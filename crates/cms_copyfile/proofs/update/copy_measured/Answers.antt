@@ -10,6 +10,9 @@ use Rattle.cms_copyfile.proofs.update.copy_measured.Goals as goal
 pub put_copied-requires-clause-place : goal.put_copied-requires-clause-place
 put_copied-requires-clause-place g c = c.requires.file.place
 
+pub put_copied-requires-clause-there : goal.put_copied-requires-clause-there
+put_copied-requires-clause-there g c = c.requires.file.there_place
+
 pub put_copied-requires-clause-told : goal.put_copied-requires-clause-told
 put_copied-requires-clause-told g c = c.requires.file.input
 

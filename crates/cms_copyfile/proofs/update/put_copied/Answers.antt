@@ -26,8 +26,8 @@ write_copies-written-requires-clause-accessed g c = written_there c.args.state.n
 
 pub write_copies-written-requires-clause-may : goal.write_copies-written-requires-clause-may
 write_copies-written-requires-clause-may g c =
-    let to : CopyTarget = record { letter = c.args.file.now.letter; name = c.args.file.now.name; write = c.args.write; shape = c.args.shape.now; stamp = c.of.result } in
-    may_at _ c.args.state.now.table to.letter c.vdev-vdev.result to c.vdev-vdev.ensures.accessed c.requires.usable c.requires.fits
+    let to : CopyTarget = record { letter = c.args.file.now.letter; name = c.args.file.now.name; there = c.args.file.now.there_place; write = c.args.write; shape = c.args.shape.now; stamp = c.of.result } in
+    may_at _ c.args.state.now.table to.letter c.vdev-vdev.result to c.vdev-vdev.ensures.accessed c.requires.usable c.requires.there c.requires.fits
 
 pub write_copies-written-requires-clause-blocks : goal.write_copies-written-requires-clause-blocks
 write_copies-written-requires-clause-blocks g c =
@@ -43,7 +43,7 @@ pub end_written-requires-clause-accessed : goal.end_written-requires-clause-acce
 end_written-requires-clause-accessed g c =
     let st = c.args.state.now in
     let s = written_at st.table c.args.file.now.letter c.requires.writing in
-    let to : CopyTarget = record { letter = c.args.file.now.letter; name = c.args.file.now.name; write = c.args.write; shape = c.args.shape.now; stamp = c.of.result } in
+    let to : CopyTarget = record { letter = c.args.file.now.letter; name = c.args.file.now.name; there = c.args.file.now.there_place; write = c.args.write; shape = c.args.shape.now; stamp = c.of.result } in
     still_there (λ (x : Seated) (e : Accessed). WritesTo (seen g.W.World c.args.world.now) (seen g.W.World c.write_copies-written.new.world) x.disk e to c.args.plan.now c.in_ok-input.input.cursor
     c.write_copies-written.result) st.table c.write_copies-written.new.table c.args.file.now.letter s.0 s.1 c.write_copies-written.ensures.writes
 
@@ -51,7 +51,7 @@ pub end_written-requires-clause-device : goal.end_written-requires-clause-device
 end_written-requires-clause-device g c =
     let st = c.args.state.now in
     let s = written_at st.table c.args.file.now.letter c.requires.writing in
-    let to : CopyTarget = record { letter = c.args.file.now.letter; name = c.args.file.now.name; write = c.args.write; shape = c.args.shape.now; stamp = c.of.result } in
+    let to : CopyTarget = record { letter = c.args.file.now.letter; name = c.args.file.now.name; there = c.args.file.now.there_place; write = c.args.write; shape = c.args.shape.now; stamp = c.of.result } in
     still_device (λ (x : Seated) (e : Accessed). WritesTo (seen g.W.World c.args.world.now) (seen g.W.World c.write_copies-written.new.world) x.disk e to c.args.plan.now c.in_ok-input.input.cursor
     c.write_copies-written.result) st.table c.write_copies-written.new.table c.args.file.now.letter s.0 c.vdev-vdev.result s.1 c.write_copies-written.ensures.writes c.vdev-vdev.ensures.accessed
 
@@ -62,7 +62,7 @@ returns-clause-acts g c = λ before words line read is shaped.
     let mid = spot g.W.World c.args.world.now st in
     let now = spot g.W.World c.write_copies-written.new.world (record st { table = c.write_copies-written.new.table }) in
     let s = written_at st.table f.letter c.requires.writing in
-    let to : CopyTarget = record { letter = f.letter; name = f.name; write = c.args.write; shape = c.args.shape.now; stamp = c.of.result } in
+    let to : CopyTarget = record { letter = f.letter; name = f.name; there = f.there_place; write = c.args.write; shape = c.args.shape.now; stamp = c.of.result } in
     c.end_written.ensures.acts before mid words line read
     (copies_written mid now line f c.in_ok-input.input to c.args.plan.now is c.in_ok-input.ensures.opened shaped refl refl s.0 c.vdev-vdev.result c.write_copies-written.result
     c.vdev-vdev.ensures.accessed s.1 c.write_copies-written.ensures.writes refl c.of.ensures.value)

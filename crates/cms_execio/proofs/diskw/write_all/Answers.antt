@@ -1,10 +1,16 @@
-use Rattle.std.proofs.Common.{◌∙◌, Some, None, sym}
+use Rattle.std.proofs.Common.{◌∙◌, Option, Some, None, ap, sym}
+use Rattle.std.specs.Option.{option_map}
+use Rattle.cms_edf.specs.declared.held.FileInfo.{FileInfo}
+use Rattle.cms_files.specs.declared.told.ToldFile.{ToldFile}
 use Rattle.cms_execio.proofs.Written.{writes_told}
 use Rattle.cms_execio.proofs.diskw.write_all.Goals as goal
 
+abbrev infos : Option ToldFile → Option FileInfo
+infos x = option_map (λ (f : ToldFile). f.info) x
+
 pub returns-in-Some-clause-acts : goal.returns-in-Some-clause-acts
 returns-in-Some-clause-acts g c =
-    writes_told _ _ c.args.target.now c.args.lines.now (Some c.in-Some.info) _ (sym c.info_named.ensures.told ∙ c.in-Some.is) c.write_more.ensures.acts
+    writes_told _ _ c.args.target.now c.args.lines.now (Some c.in-Some.there.info) _ (sym c.told_named.ensures.told ∙ ap infos c.in-Some.is) c.write_more.ensures.acts
 
 pub returns-in-None-clause-acts : goal.returns-in-None-clause-acts
-returns-in-None-clause-acts g c = writes_told _ _ c.args.target.now c.args.lines.now None _ (sym c.info_named.ensures.told ∙ c.in-None.is) c.write_anew.ensures.acts
+returns-in-None-clause-acts g c = writes_told _ _ c.args.target.now c.args.lines.now None _ (sym c.told_named.ensures.told ∙ ap infos c.in-None.is) c.write_anew.ensures.acts

@@ -12,5 +12,5 @@ returns-in_err-more-clause-acts g c =
 
 pub returns-clause-acts : goal.returns-clause-acts
 returns-clause-acts g c =
-    acts_more _ _ c.args.target.now.mode.letter c.args.target.now.name (records_of c.args.info.now.format c.args.info.now.length c.args.lines.now) c.of-stamp.result c.in_ok-more.more _
+    acts_more _ _ c.args.target.now.mode.letter c.args.target.now.name (records_of c.args.there.now.info.format c.args.there.now.info.length c.args.lines.now) c.of-stamp.result c.in_ok-more.more _
     c.of-stamp.ensures.value c.in_ok-more.ensures.stamp_is (c.write_last.ensures.acts _ c.in_ok-more.ensures.stands)

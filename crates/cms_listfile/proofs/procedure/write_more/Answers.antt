@@ -11,5 +11,5 @@ returns-in_err-more-clause-acts g c =
 
 pub returns-clause-acts : goal.returns-clause-acts
 returns-clause-acts g c =
-    acts_more _ _ c.args.last c.args.found.now _ c.of-stamp.result c.args.info.now.format c.args.info.now.length c.in_ok-more.more _ c.written_name.ensures c.of-stamp.ensures.value
+    acts_more _ _ c.args.last c.args.found.now _ c.of-stamp.result c.args.there.now.info.format c.args.there.now.info.length c.in_ok-more.more _ c.written_name.ensures c.of-stamp.ensures.value
     c.in_ok-more.ensures.stamp_is (c.write_last.ensures.acts _ c.in_ok-more.ensures.stands)

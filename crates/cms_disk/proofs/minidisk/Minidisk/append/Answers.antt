@@ -1,4 +1,4 @@
-use Rattle.std.proofs.Common.{◌≡◌, inl, inr, Result, Ok, Err, None, false, List, [], refl, sym, ◌∙◌, ap, subst}
+use Rattle.std.proofs.Common.{◌≡◌, inl, inr, Result, Ok, Err, false, List, [], refl, sym, ◌∙◌, ap, subst}
 use Rattle.std.specs.Prelude.{IfErr, ⊤}
 use Rattle.std.proofs.lemmas.Result.{err_from_is_err_and}
 use Rattle.cms_journal.specs.Journal.{HasBlocks, IsWritable}
@@ -11,15 +11,16 @@ use Rattle.cms_held.proofs.Fronts.{if_err}
 use Rattle.cms_tree.proofs.Stepping.{units_kept}
 use Rattle.cms_held.specs.Opening.{HeldVolume}
 use Rattle.cms_edf.proofs.Committed.{can_write}
+use Rattle.cms_edf.proofs.Planned.{named_at}
 use Rattle.cms_edf.specs.FileDrafts.{IsSomeDraft, LeadsToFile}
 use Rattle.cms_edf.specs.declared.draft.Draft.{Draft}
 use Rattle.cms_draft.specs.declared.shape.DraftShape.{DraftShape}
 use Rattle.cms_disk.specs.Additions.{IsAddFault}
 use Rattle.cms_disk.specs.Changing.{Appends, ChangesDisk, IsDevices, IsPutIn}
-use Rattle.cms_disk.specs.Disks.{Accessed, place_of}
+use Rattle.cms_disk.specs.Disks.{Accessed}
 use Rattle.cms_disk.specs.declared.fault.DiskFault.{DiskFault}
-use Rattle.cms_disk.specs.declared.fault.DiskFault.TheVariants.{NotFound, ReadOnly}
-use Rattle.cms_disk.proofs.Adding.{add_fault, appends_of, changed_both, changed_put, changed_read, changed_then, device_fault, fault_locked, fault_missing, more_refused, not_missing}
+use Rattle.cms_disk.specs.declared.fault.DiskFault.TheVariants.{ReadOnly}
+use Rattle.cms_disk.proofs.Adding.{add_fault, appends_of, changed_both, changed_put, changed_read, changed_then, device_fault, fault_locked, more_refused}
 use Rattle.cms_disk.proofs.DraftSteps.{none_aside}
 use Rattle.cms_disk.proofs.Extending.{behind_at, last_behind, may_extend, shape_told, shaped_at}
 use Rattle.cms_disk.proofs.FilePut.{added_none, alters_same, given_up, more_in, not_read_only, on_ok}
@@ -28,48 +29,40 @@ use Rattle.cms_disk.proofs.Finding.{none_found}
 use Rattle.cms_disk.proofs.TooMany.{limited, no_room}
 use Rattle.cms_disk.proofs.minidisk.Minidisk.append.Goals as goal
 
-pub returns-in_err-place-clause-appends : goal.returns-in_err-place-clause-appends
-returns-in_err-place-clause-appends g c = λ j m records told is stands.
-    let p = err_from_is_err_and c.from_residual.result c.from_residual.ensures.1 in
-    let old = g.W.World.told c.args.world.now in
-    let d = c.args.self.now in
-    let none = c.in_err-place.ensures in
-    subst (Appends old old d d m (Add c.args.name.now records c.args.more.now.stamp) c.args.stamp.now) (sym (p.1 ∙ ap Err (p.2 ∙ none.fault)))
-    (refl, none_found d c.args.name.now none.missing (now j d.volume.unit) m is.stands)
-
 pub returns-then-not-is_writable-clause-appends : goal.returns-then-not-is_writable-clause-appends
 returns-then-not-is_writable-clause-appends g c = λ j m records told is stands. (refl, sym c.is_writable.ensures ∙ c.if-not-is_writable.true)
 
+pub shape_with-requires-clause-place : goal.shape_with-requires-clause-place
+shape_with-requires-clause-place g c = (named_at c.args.self.now.volume.files c.args.name.now c.args.place c.requires.there).within
+
 pub shape_with-requires-clause-fits : goal.shape_with-requires-clause-fits
-shape_with-requires-clause-fits g c = λ info at. c.requires.fits c.in_ok-place.place info c.in_ok-place.ensures.place at
+shape_with-requires-clause-fits g c = λ info at. c.requires.fits c.args.place info c.requires.there at
 
 pub returns-in_err-shape-clause-appends : goal.returns-in_err-shape-clause-appends
 returns-in_err-shape-clause-appends g c = λ j m records told is stands.
-    let p = err_from_is_err_and c.from_residual-in_err-shape.result c.from_residual-in_err-shape.ensures.1 in
+    let p = err_from_is_err_and c.from_residual.result c.from_residual.ensures.1 in
     let old = g.W.World.told c.args.world.now in
     let d = c.args.self.now in
     let name = c.args.name.now in
     let more = c.args.more.now in
-    let there = c.in_ok-place.ensures in
     let no = c.in_err-shape.ensures in
     subst (Appends old old d d m (Add name records more.stamp) c.args.stamp.now) (sym (p.1 ∙ ap Err (p.2 ∙ no.fault)))
-    (refl, limited j d m name c.in_ok-place.place more records there.kept is (c.requires.blocks j told) stands c.requires.fits there.place no.many)
+    (refl, limited j d m name c.args.place more records no.kept is (c.requires.blocks j told) stands c.requires.fits c.requires.there no.many)
 
 pub returns-in_err-shape-clause-fault : goal.returns-in_err-shape-clause-fault
 returns-in_err-shape-clause-fault g c =
-    let p = err_from_is_err_and c.from_residual-in_err-shape.result c.from_residual-in_err-shape.ensures.1 in
+    let p = err_from_is_err_and c.from_residual.result c.from_residual.ensures.1 in
     let d = c.args.self.now in
     let name = c.args.name.now in
     let more = c.args.more.now in
-    let there = c.in_ok-place.ensures in
     let no = c.in_err-shape.ensures in
-    subst (λ (r : Result ⊤ DiskFault). IfErr r (IsAddFault d name more)) (sym (p.1 ∙ ap Err (p.2 ∙ no.fault))) (no_room d name c.in_ok-place.place more there.kept there.place no.many)
+    subst (λ (r : Result ⊤ DiskFault). IfErr r (IsAddFault d name more)) (sym (p.1 ∙ ap Err (p.2 ∙ no.fault))) (no_room d name c.args.place more no.kept c.requires.there no.many)
 
 pub draft_more-requires-clause-extends : goal.draft_more-requires-clause-extends
 draft_more-requires-clause-extends g c =
     let shape = c.in_ok-shape.ensures in
     may_extend c.args.self.now.volume c.args.name.now c.args.more.now c.in_ok-shape.shape
-    (shaped_at c.args.self.now.volume c.args.name.now c.in_ok-place.place c.args.more.now c.in_ok-shape.shape c.in_ok-place.ensures.place shape.shape shape.can)
+    (shaped_at c.args.self.now.volume c.args.name.now c.args.place c.args.more.now c.in_ok-shape.shape c.requires.there shape.shape shape.can)
 
 pub returns-in_err-draft-clause-appends : goal.returns-in_err-draft-clause-appends
 returns-in_err-draft-clause-appends g c = λ j m records told is stands.
@@ -83,7 +76,7 @@ returns-in_err-draft-clause-appends g c = λ j m records told is stands.
     let shape = c.in_ok-shape.shape in
     let stamp = c.args.stamp.now in
     let made = c.in_err-draft.ensures in
-    let s = shaped_at d.volume name c.in_ok-place.place more shape c.in_ok-place.ensures.place c.in_ok-shape.ensures.shape c.in_ok-shape.ensures.can in
+    let s = shaped_at d.volume name c.args.place more shape c.requires.there c.in_ok-shape.ensures.shape c.in_ok-shape.ensures.can in
     let at = behind_at j d m name more records shape is stands c.requires.fits s in
     let has = c.requires.blocks j told in
     subst (λ (z : Stamp). Appends old new d e m (Add name records z) stamp c.from_residual-in_err-draft.result) (ap (λ (z : DraftShape). z.stamp) s.shape_is)
@@ -97,7 +90,7 @@ put_records-requires-clause-last g c =
     let name = c.args.name.now in
     let more = c.args.more.now in
     let shape = c.in_ok-shape.shape in
-    let s = shaped_at d.volume name c.in_ok-place.place more shape c.in_ok-place.ensures.place c.in_ok-shape.ensures.shape c.in_ok-shape.ensures.can in
+    let s = shaped_at d.volume name c.args.place more shape c.requires.there c.in_ok-shape.ensures.shape c.in_ok-shape.ensures.can in
     let told = s.told in
     let fit = c.requires.fits told.place _ told.place_is told.info_is in
     last_behind more c.requires.more.records _ s.file.size shape c.in_ok-draft.draft.writer c.requires.more.stands s.shape_is fit.0 fit.1 (c.in_ok-draft.ensures.behind _ s.file.size told)
@@ -120,7 +113,7 @@ returns-in_err-put_records-clause-appends g c = λ j m records told is stands.
     let shape = c.in_ok-shape.shape in
     let stamp = c.args.stamp.now in
     let made = c.in_ok-draft.ensures in
-    let s = shaped_at d.volume name c.in_ok-place.place more shape c.in_ok-place.ensures.place c.in_ok-shape.ensures.shape c.in_ok-shape.ensures.can in
+    let s = shaped_at d.volume name c.args.place more shape c.requires.there c.in_ok-shape.ensures.shape c.in_ok-shape.ensures.can in
     let at = behind_at j d m name more records shape is stands c.requires.fits s in
     let change = Add name records shape.stamp in
     let goes = made.begins j m at.file records told is at.named at.have in
@@ -159,7 +152,7 @@ returns-clause-appends g c = λ j m records told is stands.
     let shape = c.in_ok-shape.shape in
     let stamp = c.args.stamp.now in
     let made = c.in_ok-draft.ensures in
-    let s = shaped_at d.volume name c.in_ok-place.place more shape c.in_ok-place.ensures.place c.in_ok-shape.ensures.shape c.in_ok-shape.ensures.can in
+    let s = shaped_at d.volume name c.args.place more shape c.requires.there c.in_ok-shape.ensures.shape c.in_ok-shape.ensures.can in
     let at = behind_at j d m name more records shape is stands c.requires.fits s in
     let volume = ap (λ (a : Accessed). a.volume) made.kept in
     let writable = ap (λ (a : Accessed). a.writable) made.kept in
@@ -170,12 +163,6 @@ returns-clause-appends g c = λ j m records told is stands.
     (appends_of old new d c.commit.new.self m change stamp c.commit.result
     (alters_same old new d e c.commit.new.self m change stamp c.commit.result volume writable (c.commit.ensures.alters old m change stamp records goes)))
 
-pub returns-in_err-place-clause-fault : goal.returns-in_err-place-clause-fault
-returns-in_err-place-clause-fault g c =
-    let p = err_from_is_err_and c.from_residual.result c.from_residual.ensures.1 in
-    let none = c.in_err-place.ensures in
-    subst (λ (r : Result ⊤ DiskFault). IfErr r (IsAddFault c.args.self.now c.args.name.now c.args.more.now)) (sym (p.1 ∙ ap Err (p.2 ∙ none.fault))) none.missing
-
 pub returns-in_err-draft-clause-fault : goal.returns-in_err-draft-clause-fault
 returns-in_err-draft-clause-fault g c =
     let p = err_from_is_err_and c.from_residual-in_err-draft.result c.from_residual-in_err-draft.ensures.1 in
@@ -183,16 +170,8 @@ returns-in_err-draft-clause-fault g c =
     let name = c.args.name.now in
     let more = c.args.more.now in
     let shape = c.in_ok-shape.shape in
-    let s = shaped_at d.volume name c.in_ok-place.place more shape c.in_ok-place.ensures.place c.in_ok-shape.ensures.shape c.in_ok-shape.ensures.can in
+    let s = shaped_at d.volume name c.args.place more shape c.requires.there c.in_ok-shape.ensures.shape c.in_ok-shape.ensures.can in
     subst (λ (r : Result ⊤ DiskFault). IfErr r (IsAddFault d name more)) (sym (p.1 ∙ ap Err p.2)) (add_fault d name more shape s c.in_err-draft.field-0.0 c.in_err-draft.ensures.fault)
-
-pub returns-in_err-draft-clause-missing : goal.returns-in_err-draft-clause-missing
-returns-in_err-draft-clause-missing g c =
-    let p = err_from_is_err_and c.from_residual-in_err-draft.result c.from_residual-in_err-draft.ensures.1 in
-    let d = c.args.self.now in
-    let name = c.args.name.now in
-    subst (λ (r : Result ⊤ DiskFault). IfErr r (λ (e : DiskFault). e ≡ NotFound → place_of name d.volume ≡ None)) (sym (p.1 ∙ ap Err p.2))
-    (fault_missing d name c.in_ok-shape.shape c.in_err-draft.field-0.0 c.in_err-draft.ensures.fault)
 
 pub returns-in_err-draft-clause-read_only : goal.returns-in_err-draft-clause-read_only
 returns-in_err-draft-clause-read_only g c =
@@ -218,18 +197,9 @@ returns-in_err-put_records-clause-fault g c =
     let name = c.args.name.now in
     let more = c.args.more.now in
     let shape = c.in_ok-shape.shape in
-    let s = shaped_at d.volume name c.in_ok-place.place more shape c.in_ok-place.ensures.place c.in_ok-shape.ensures.shape c.in_ok-shape.ensures.can in
+    let s = shaped_at d.volume name c.args.place more shape c.requires.there c.in_ok-shape.ensures.shape c.in_ok-shape.ensures.can in
     subst (λ (r : Result ⊤ DiskFault). IfErr r (IsAddFault d name more)) (sym (p.1 ∙ ap Err p.2))
     (device_fault d name more shape s c.in_ok-draft.ensures.room c.in_err-put_records.field-0.0 (inl c.in_err-put_records.ensures.fault))
-
-pub returns-in_err-put_records-clause-missing : goal.returns-in_err-put_records-clause-missing
-returns-in_err-put_records-clause-missing g c =
-    let p = err_from_is_err_and c.from_residual-in_err-put_records.result c.from_residual-in_err-put_records.ensures.1 in
-    let d = c.args.self.now in
-    let name = c.args.name.now in
-    let why = c.in_err-put_records.field-0.0 in
-    subst (λ (r : Result ⊤ DiskFault). IfErr r (λ (e : DiskFault). e ≡ NotFound → place_of name d.volume ≡ None)) (sym (p.1 ∙ ap Err p.2))
-    (λ same. absurd (not_missing why (inl c.in_err-put_records.ensures.fault) same))
 
 pub returns-in_err-put_records-clause-read_only : goal.returns-in_err-put_records-clause-read_only
 returns-in_err-put_records-clause-read_only g c =
@@ -258,12 +228,8 @@ returns-clause-fault g c =
     let name = c.args.name.now in
     let more = c.args.more.now in
     let shape = c.in_ok-shape.shape in
-    let s = shaped_at d.volume name c.in_ok-place.place more shape c.in_ok-place.ensures.place c.in_ok-shape.ensures.shape c.in_ok-shape.ensures.can in
+    let s = shaped_at d.volume name c.args.place more shape c.requires.there c.in_ok-shape.ensures.shape c.in_ok-shape.ensures.can in
     if_err c.commit.result IsDevices (IsAddFault d name more) (device_fault d name more shape s c.in_ok-draft.ensures.room) c.commit.ensures.fault
-
-pub returns-clause-missing : goal.returns-clause-missing
-returns-clause-missing g c =
-    if_err c.commit.result IsDevices (λ (e : DiskFault). e ≡ NotFound → place_of c.args.name.now c.args.self.now.volume ≡ None) (λ e device same. absurd (not_missing e device same)) c.commit.ensures.fault
 
 pub returns-clause-read_only : goal.returns-clause-read_only
 returns-clause-read_only g c =
@@ -292,7 +258,7 @@ returns-clause-holds g c =
     let more = c.args.more.now in
     let made = c.in_ok-draft.ensures in
     let volume = ap (λ (a : Accessed). a.volume) made.kept in
-    let s = shaped_at d.volume name c.in_ok-place.place more c.in_ok-shape.shape c.in_ok-place.ensures.place c.in_ok-shape.ensures.shape c.in_ok-shape.ensures.can in
+    let s = shaped_at d.volume name c.args.place more c.in_ok-shape.shape c.requires.there c.in_ok-shape.ensures.shape c.in_ok-shape.ensures.can in
     let planned = same_more d.volume name s.file c.in_ok-shape.shape c.args.stamp.now c.in_ok-draft.draft c.put_records.new.draft c.in_ok-put_records.ensures.same (made.planned s.file s.is) in
     on_ok c.commit.result
     (λ leads info bytes told. subst (λ (x : DraftShape). IsPutIn d.volume name x c.commit.new.self.volume) (shape_told d.volume name more c.in_ok-shape.shape info bytes s told)

@@ -1,4 +1,4 @@
-use Rattle.std.proofs.Common.{◌≡◌, ◌∙◌, length, Some, sym, ap, subst}
+use Rattle.std.proofs.Common.{◌≡◌, ◌∙◌, ℕ, length, Option, Some, refl, sym, ap, subst}
 use Rattle.std.specs.Prelude.{IsSome}
 use Rattle.std.proofs.lemmas.Result.{err_from_is_err_and}
 use Rattle.cms_journal.specs.Journal.{HasBlocks}
@@ -7,27 +7,22 @@ use Rattle.cms_held.specs.Putting.{limit_put}
 use Rattle.cms_edf.specs.declared.draft.Draft.{Draft}
 use Rattle.cms_disk.specs.Additions.{MayExtend}
 use Rattle.cms_disk.specs.Disks.{Accessed, place_of}
-use Rattle.cms_disk.specs.declared.fault.DiskFault.TheVariants as failed
-use Rattle.cms_disk.proofs.AddAnswering.{more_fault, none_so, planned_so, refused_so, room_for}
-use Rattle.cms_disk.proofs.Altering.{not_there}
+use Rattle.cms_disk.proofs.AddAnswering.{more_fault, planned_so, refused_so, room_for}
 use Rattle.cms_disk.proofs.Extending.{begins_more, behind_file, can_grow, file_there, told_of}
 use Rattle.cms_disk.proofs.minidisk.Minidisk.draft_more.Goals as goal
 
-pub returns-then-not-has-clause-answers : goal.returns-then-not-has-clause-answers
-returns-then-not-has-clause-answers g c =
-    none_so Draft c.args.self.now c.args.name.now c.args.shape.now failed.NotFound (not_there (place_of c.args.name.now c.args.self.now.volume) c.has.result c.has.ensures c.if-not-has.true)
+-- it is there
+is_some : {o : Option ℕ} {k : ℕ} → o ≡ Some k → IsSome o
+is_some e = subst (λ (x : Option ℕ). IsSome x) (sym e) refl
 
 pub returns-then-not-is_writable-clause-answers : goal.returns-then-not-is_writable-clause-answers
 returns-then-not-is_writable-clause-answers g c = λ j m file more is has named counts. tt
 
 pub plan_more-requires-clause-grows : goal.plan_more-requires-clause-grows
-plan_more-requires-clause-grows g c = λ place there.
-    can_grow c.self.inside.held.volume c.args.name.now c.args.shape.now
-    (subst (λ (v : HeldVolume). MayExtend v c.args.name.now c.args.shape.now) (sym (ap (λ (a : Accessed). a.volume) c.self.view_is)) c.requires.extends) place there
-
-pub plan_more-requires-clause-there : goal.plan_more-requires-clause-there
-plan_more-requires-clause-there g c =
-    subst (λ (v : HeldVolume). IsSome (place_of c.args.name.now v)) (sym (ap (λ (a : Accessed). a.volume) c.self.view_is)) (c.has.ensures.0 c.if-not-has.false)
+plan_more-requires-clause-grows g c =
+    let view = sym (ap (λ (a : Accessed). a.volume) c.self.view_is) in
+    can_grow c.self.inside.held.volume c.args.name.now c.args.shape.now (subst (λ (v : HeldVolume). MayExtend v c.args.name.now c.args.shape.now) view c.requires.extends) c.args.place
+    (subst (λ (v : HeldVolume). place_of c.args.name.now v ≡ Some c.args.place) view c.requires.there)
 
 pub plan_more-requires-clause-blocks : goal.plan_more-requires-clause-blocks
 plan_more-requires-clause-blocks g c = λ j told.
@@ -47,7 +42,7 @@ returns-in_err-draft-clause-answers g c =
     let d : Accessed = record { vdev = s.unit.vdev; writable = s.unit.writable; volume = s.held.volume; spare = s.held.spare } in
     let view = ap (λ (a : Accessed). a.volume) c.self.view_is in
     let may = subst (λ (v : HeldVolume). MayExtend v c.args.name.now c.args.shape.now) (sym view) c.requires.extends in
-    let some = subst (λ (v : HeldVolume). IsSome (place_of c.args.name.now v)) (sym view) (c.has.ensures.0 c.if-not-has.false) in
+    let some = is_some (subst (λ (v : HeldVolume). place_of c.args.name.now v ≡ Some c.args.place) (sym view) c.requires.there) in
     rw (← c.self.view_is, p.1, p.2) (refused_so Draft d c.args.name.now c.args.shape.now c.in_err-draft.field-0.0 c.plan_more.ensures.kept may some c.in_err-draft.ensures.refused)
 
 pub returns-clause-behind : goal.returns-clause-behind
@@ -64,7 +59,7 @@ returns-clause-answers g c =
     let s = c.self.inside in
     let d : Accessed = record { vdev = s.unit.vdev; writable = s.unit.writable; volume = s.held.volume; spare = s.held.spare } in
     let view = ap (λ (a : Accessed). a.volume) c.self.view_is in
-    let some = subst (λ (v : HeldVolume). IsSome (place_of c.args.name.now v)) (sym view) (c.has.ensures.0 c.if-not-has.false) in
+    let some = is_some (subst (λ (v : HeldVolume). place_of c.args.name.now v ≡ Some c.args.place) (sym view) c.requires.there) in
     rw (← c.self.view_is) (planned_so c.in_ok-draft.draft d c.args.name.now c.args.shape.now c.args.stamp.now c.in_ok-draft.draft c.plan_more.ensures.kept some c.in_ok-draft.ensures.planned)
 
 pub returns-clause-begins : goal.returns-clause-begins
@@ -79,7 +74,7 @@ returns-clause-begins g c =
     let made = c.in_ok-draft.ensures in
     let view = ap (λ (a : Accessed). a.volume) c.self.view_is in
     let may = subst (λ (v : HeldVolume). MayExtend v name shape) (sym view) c.requires.extends in
-    let some = subst (λ (v : HeldVolume). IsSome (place_of name v)) (sym view) (c.has.ensures.0 c.if-not-has.false) in
+    let some = is_some (subst (λ (v : HeldVolume). place_of name v ≡ Some c.args.place) (sym view) c.requires.there) in
     let there = file_there d.volume name some in
     let h = there.0 in
     let at = there.1 in
@@ -90,7 +85,7 @@ returns-clause-begins g c =
     (λ j front records told front_is on. made.drafts j told h front records at front_is on))
 
 pub returns-clause-limited : goal.returns-clause-limited
-returns-clause-limited g c = λ there writable which is.
+returns-clause-limited g c = λ writable which is.
     let view = ap (λ (a : Accessed). a.volume) c.self.view_is in
     let shape = c.args.shape.now in
     let at = subst (λ (v : HeldVolume). limit_put (length v.files) shape.count shape.bytes ≡ Some which) (sym view) is in

@@ -36,6 +36,13 @@ returns g c =
       reads = made.reads;
     })
 
+pub draft_more-requires-clause-there : goal.draft_more-requires-clause-there
+draft_more-requires-clause-there g c =
+    let t = the_view c.self.inside in
+    let s = seats.the_view c.seat.inside in
+    let at = seat_at t _ c.args.letter _ c.self.view_is c.requires.accessed c.index_mut.ensures.value s _ c.in-Some.is c.seat.view_is in
+    (c.requires.may s (ap (λ (x : Accesses). item_at x.seats c.args.letter) (sym c.self.view_is) ∙ at)).there
+
 pub draft_more-requires-clause-extends : goal.draft_more-requires-clause-extends
 draft_more-requires-clause-extends g c =
     let t = the_view c.self.inside in

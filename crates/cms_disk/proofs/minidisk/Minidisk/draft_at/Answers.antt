@@ -1,10 +1,16 @@
+use Rattle.std.proofs.Common.{◌≡◌, ap, subst, sym}
 use Rattle.std.proofs.lemmas.Result.{err_from_is_err_and}
+use Rattle.cms_held.specs.Opening.{HeldVolume}
 use Rattle.cms_edf.specs.declared.draft.Draft.{Draft}
-use Rattle.cms_disk.specs.Disks.{Accessed}
+use Rattle.cms_disk.specs.Disks.{Accessed, place_of}
 use Rattle.cms_disk.proofs.Answering.{draft_fault, draft_made, draft_refused}
 use Rattle.cms_disk.proofs.DraftSteps.{begins_put}
 use Rattle.cms_disk.proofs.FilePut.{not_both}
-use Rattle.cms_disk.proofs.minidisk.Minidisk.draft.Goals as goal
+use Rattle.cms_disk.proofs.minidisk.Minidisk.draft_at.Goals as goal
+
+pub plan_draft_at-requires-clause-place : goal.plan_draft_at-requires-clause-place
+plan_draft_at-requires-clause-place c =
+    subst (λ (v : HeldVolume). c.args.there ≡ place_of c.args.name.now v) (sym (ap (λ (a : Accessed). a.volume) c.self.view_is)) c.requires.there
 
 pub returns-in_err-draft-clause-answers : goal.returns-in_err-draft-clause-answers
 returns-in_err-draft-clause-answers c =
@@ -12,7 +18,7 @@ returns-in_err-draft-clause-answers c =
     rw (← c.self.view_is) (λ j m records is has counts.
     let s = c.self.inside in
     let d : Accessed = record { vdev = s.unit.vdev; writable = s.unit.writable; volume = s.held.volume; spare = s.held.spare } in
-    rw (p.1, p.2) (draft_refused Draft j d m c.args.name.now c.args.shape.now records c.in_err-draft.field-0.0 is has c.plan_draft.ensures.kept counts c.in_err-draft.ensures.refused))
+    rw (p.1, p.2) (draft_refused Draft j d m c.args.name.now c.args.shape.now records c.in_err-draft.field-0.0 is has c.plan_draft_at.ensures.kept counts c.in_err-draft.ensures.refused))
 
 pub returns-in_err-draft-clause-fault : goal.returns-in_err-draft-clause-fault
 returns-in_err-draft-clause-fault c =
@@ -26,7 +32,7 @@ returns-clause-answers c = rw (← c.self.view_is) (λ j m records is has counts
     let s = c.self.inside in
     let d : Accessed = record { vdev = s.unit.vdev; writable = s.unit.writable; volume = s.held.volume; spare = s.held.spare } in
     let planned = c.in_ok-draft.ensures.planned in
-    draft_made j d m c.args.name.now c.args.shape.now records is has c.plan_draft.ensures.kept counts (planned.file 0).unlimited (planned.file 0).room)
+    draft_made j d m c.args.name.now c.args.shape.now records is has c.plan_draft_at.ensures.kept counts (planned.file 0).unlimited (planned.file 0).room)
 
 pub returns-clause-limited : goal.returns-clause-limited
 returns-clause-limited c = rw (← c.self.view_is) (λ writable which limit. absurd (not_both which limit (c.in_ok-draft.ensures.planned.file 0).unlimited))
@@ -35,7 +41,7 @@ pub returns-clause-begins : goal.returns-clause-begins
 returns-clause-begins c = rw (← c.self.view_is) (
     let s = c.self.inside in
     let d : Accessed = record { vdev = s.unit.vdev; writable = s.unit.writable; volume = s.held.volume; spare = s.held.spare } in
-    let e : Accessed = record { vdev = s.unit.vdev; writable = s.unit.writable; volume = c.plan_draft.new.held.volume; spare = c.plan_draft.new.held.spare } in
+    let e : Accessed = record { vdev = s.unit.vdev; writable = s.unit.writable; volume = c.plan_draft_at.new.held.volume; spare = c.plan_draft_at.new.held.spare } in
     let made = c.in_ok-draft.ensures in
     begins_put d e c.args.name.now c.args.shape.now c.args.stamp.now c.in_ok-draft.draft made.volume made.planned made.fresh)
 

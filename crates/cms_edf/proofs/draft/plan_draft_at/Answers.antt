@@ -5,7 +5,7 @@ use Rattle.std.specs.Prelude.{IfOk}
 use Rattle.cms_held.specs.Opening.{HeldVolume}
 use Rattle.cms_draft.specs.Drafting.{IsFresh}
 use Rattle.cms_edf.specs.FileDrafts.{IsDraftFor, tree_of}
-use Rattle.cms_edf.proofs.draft.plan_draft.Goals as goal
+use Rattle.cms_edf.proofs.draft.plan_draft_at.Goals as goal
 
 -- a new file is some file
 pub returns-clause-some : goal.returns-clause-some
