@@ -9,7 +9,7 @@ use Rattle.cms_text.specs.Texts.{ebcdic, is_keyword}
 use Rattle.cms_model.specs.Changes.{answer_of, changed, changed_files, entries_made, is_full, limit, need, place_named, written_file}
 use Rattle.cms_model.specs.Lists.{holds}
 use Rattle.cms_model.specs.DirectoryParts.{blocks_with, directory_taken}
-use Rattle.cms_model.specs.Sharing.{any_within, fresh_count, fresh_on, fresh_to, is_kept}
+use Rattle.cms_model.specs.SharedTrees.{any_within, fresh_count, fresh_on, fresh_to, is_kept}
 use Rattle.cms_model.specs.Minidisks.{File, State, Volume, Not}
 use Rattle.cms_names.specs.declared.name.Format.TheVariants.{F}
 use Rattle.cms_model.specs.Sizes.{directory_more, file_size, free_count, map_size, stored_size, tree_size, used_count, levels, levels_from, pointer_count, pointers_to}

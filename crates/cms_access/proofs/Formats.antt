@@ -20,7 +20,7 @@ use Rattle.cms_search.specs.Machine.{Course, Letter, letter_at}
 use Rattle.cms_search.specs.Refusals.{no_disk}
 use Rattle.cms_search.specs.Searches.{item_at}
 use Rattle.cms_search.specs.Shows.{device_of}
-use Rattle.cms_search.specs.Tables.{Accesses, Seated, letters_of, place_of_device, unit_of_device, writing}
+use Rattle.cms_search.specs.Tables.{AccessTable, Seated, letters_of, place_of_device, unit_of_device, writing}
 use Rattle.cms_search.specs.Texts.{device_text, letter_text}
 use Rattle.cms_search.specs.declared.state.Course as declared
 use Rattle.cms_search.specs.declared.state.Course.TheVariants as course
@@ -83,7 +83,7 @@ device_is st units vdev u unit slot next place has there =
     ∙ ap (λ (x : Option Device). in_slot s vdev next u x (slice_get units u)) (get_map device_of st.table.units u ∙ ap (λ (x : Option UnitInfo). option_map device_of x) has)
     ∙ ap (λ (x : Option Slot). in_slot s vdev next u (Some (device_of unit)) x) there
 
-mark_is : (t : Accesses) (vdev u : ℕ) (b doubt : Bool) → place_of_device vdev t.units ≡ Some u → is_marked vdev t ≡ b → slice_get t.doubts u ≡ Some doubt → doubt ≡ b
+mark_is : (t : AccessTable) (vdev u : ℕ) (b doubt : Bool) → place_of_device vdev t.units ≡ Some u → is_marked vdev t ≡ b → slice_get t.doubts u ≡ Some doubt → doubt ≡ b
 mark_is t vdev u b doubt place marked has =
     sym (ap (λ (x : Option Bool). unwrap_or x false) has) ∙ ap (λ (p : Option ℕ). unwrap_or (option_and_then (λ v. slice_get t.doubts v) p) false) (sym place) ∙ marked
 

@@ -10,7 +10,7 @@ use Rattle.cms_line.specs.declared.token.Token.{Token}
 use Rattle.cms_operands.specs.Choices.{chosen_of, no_forms}
 use Rattle.cms_operands.specs.Optional.{access_mode_or_a, device_or, read_or}
 use Rattle.cms_operands.specs.Operands.{access_mode, access_mode_in, ended, given, letter_in, letter_of_word, operands_of, or_refused, with_ext, without_ext}
-use Rattle.cms_operands.specs.declared.choosing.ChosenOption.{ChosenOption}
+use Rattle.cms_operands.specs.declared.options.ChosenOption.{ChosenOption}
 use Rattle.cms_operands.specs.declared.operand.AccessMode.{AccessMode}
 use Rattle.cms_operands.specs.declared.refusal.Refusal.{Refusal}
 use Rattle.cms_operands.specs.declared.refusal.Refusal.TheVariants.{BadMode}

@@ -14,7 +14,7 @@ use Rattle.cms_line.specs.Messages.{message_text}
 use Rattle.cms_line.specs.declared.message.Message.TheVariants.{M105, M733}
 use Rattle.cms_world.specs.Seen.{Seen}
 use Rattle.cms_disk.specs.Disks.{Accessed}
-use Rattle.cms_disk.specs.Making.{Formats, IsMakeFault}
+use Rattle.cms_disk.specs.EmptyMinidisks.{Formats, IsMakeFault}
 use Rattle.cms_disk.specs.declared.fault.DiskFault.{DiskFault}
 use Rattle.cms_disk.specs.declared.fault.DiskFault.TheVariants as failed
 use Rattle.cms_disk.specs.declared.unit.UnitInfo.{UnitInfo}
@@ -23,7 +23,7 @@ use Rattle.cms_search.specs.Format.{FormatsUnit, MayFormat, answer_made, table_m
 use Rattle.cms_search.specs.Machine.{Course, Letter, Places}
 use Rattle.cms_search.specs.Places.{without_device}
 use Rattle.cms_search.specs.Searches.{item_at}
-use Rattle.cms_search.specs.Tables.{Accesses, Seated, cleared, letters_of, place_of_device, unit_of_device}
+use Rattle.cms_search.specs.Tables.{AccessTable, Seated, cleared, letters_of, place_of_device, unit_of_device}
 use Rattle.cms_search.specs.Texts.{device_text, letter_text}
 use Rattle.cms_search.specs.Units.{forgotten, left_by, vdev_of}
 use Rattle.cms_search.specs.declared.state.Course as declared
@@ -51,12 +51,12 @@ device_there units vdev u unit place has =
     let one = get_or_from_slice_get units u unit unit has in
     eqb-true unit.vdev vdev (ap (λ (x : UnitInfo). x.vdev == vdev) (sym one) ∙ h.1)
 
-sure_there : (t : Accesses) (vdev u : ℕ) → place_of_device vdev t.units ≡ Some u → is_marked vdev t ≡ false → (doubt : Bool) → slice_get t.doubts u ≡ Some doubt → doubt ≡ false
+sure_there : (t : AccessTable) (vdev u : ℕ) → place_of_device vdev t.units ≡ Some u → is_marked vdev t ≡ false → (doubt : Bool) → slice_get t.doubts u ≡ Some doubt → doubt ≡ false
 sure_there t vdev u place sure doubt has =
     sym (ap (λ (x : Option Bool). unwrap_or x false) has) ∙ ap (λ (p : Option ℕ). unwrap_or (option_and_then (λ v. slice_get t.doubts v) p) false) (sym place) ∙ sure
 
 -- it may be formatted
-pub may_format : (told : Told) (t : Accesses) (vdev : ℕ) (unit : UnitInfo) → unit_of_device vdev t.units ≡ Some unit → 8 ≤ unit.unit.blocks → unit.writable ≡ true → Usable told t
+pub may_format : (told : Told) (t : AccessTable) (vdev : ℕ) (unit : UnitInfo) → unit_of_device vdev t.units ≡ Some unit → 8 ≤ unit.unit.blocks → unit.writable ≡ true → Usable told t
     → ForSome (unit_of_device vdev t.units) (MayFormat told)
 may_format told t vdev unit is least writable usable other at =
     let place = some_place vdev t.units unit is in
@@ -143,8 +143,8 @@ was_starved (Err failed.Memory) e is may = (refl, sym (cc is))
 
 -- ---- the call
 
--- what `Table::format` said, which came to r; now is the world behind it
-abbrev pub Formatted : Spot → Seen → Accesses → FormatLine → List ℕ → UnitInfo → Stamp → Result ⊤ DiskFault → Type 0
+-- what `AccessTable::format` said, which came to r; now is the world behind it
+abbrev pub Formatted : Spot → Seen → AccessTable → FormatLine → List ℕ → UnitInfo → Stamp → Result ⊤ DiskFault → Type 0
 Formatted old now t line volid unit stamp r = (place : ℕ) (info : UnitInfo) → place_of_device line.vdev old.state.table.units ≡ Some place → slice_get old.state.table.units place ≡ Some info
     → FormatsUnit old.world now old.state.table t place line.letter info volid stamp r
 
@@ -160,10 +160,10 @@ placed st line unit may =
     record { place = place.0; place_is = place.1; unit_is = unit_there st.table.units line.vdev place.0 unit may.unit_is place.1 }
 
 -- what is known of the call where the table was changed
-abbrev pub left : Spot → Seen → Accesses → Places → Spot
+abbrev pub left : Spot → Seen → AccessTable → Places → Spot
 left old now t places = record { world = now; state = record old.state { table = t; places = places } }
 
-remade_so : (old : Spot) (now : Seen) (t : Accesses) (places : Places) (line : FormatLine) (volid : List ℕ) (unit : UnitInfo) (stamp : Stamp) (r : Result ⊤ DiskFault) (m : Result Accessed DiskFault)
+remade_so : (old : Spot) (now : Seen) (t : AccessTable) (places : Places) (line : FormatLine) (volid : List ℕ) (unit : UnitInfo) (stamp : Stamp) (r : Result ⊤ DiskFault) (m : Result Accessed DiskFault)
     → (may : MayRemake old.state line unit) → stamp ≡ stamp_of old.state.moment → (p : Placed old.state line unit)
     → (f : FormatsUnit old.world now old.state.table t p.place line.letter unit volid stamp r) → f.made ≡ m
     → places ≡ places_left old.state p.place line.letter → Remade old (left old now t places) line volid unit m
@@ -179,12 +179,12 @@ remade_so old now t places line volid unit stamp r m may when p f is kept =
       on = f.on;
       formats = λ j state told ready. subst (λ (z : Stamp). Formats old.world.told now.told unit state volid z f.made) when (f.formats j state told ready);
       changes = f.changes;
-      state = ap (λ (x : Accesses). record old.state { table = x; places = places }) f.table
+      state = ap (λ (x : AccessTable). record old.state { table = x; places = places }) f.table
           ∙ ap (λ (x : Places). record old.state { table = table_made old.state.table p.place unit line.letter f.made; places = x }) kept;
     })
 
 -- the volume was made, and that is typed
-pub made_good : (old : Spot) (now last : Seen) (t : Accesses) (places : Places) (line : FormatLine) (volid : List ℕ) (unit : UnitInfo) (stamp : Stamp) (r : Result ⊤ DiskFault)
+pub made_good : (old : Spot) (now last : Seen) (t : AccessTable) (places : Places) (line : FormatLine) (volid : List ℕ) (unit : UnitInfo) (stamp : Stamp) (r : Result ⊤ DiskFault)
     (x : Result declared.Course End) → (may : MayRemake old.state line unit) → stamp ≡ stamp_of old.state.moment → Formatted old now t line volid unit stamp r → made_of r ≡ Ok true
     → ((p : Placed old.state line unit) → places ≡ places_left old.state p.place line.letter)
     → Does now last (saying (typed_line (message_text (M733 (decimal_of unit.unit.blocks) (letter_text line.letter) (device_text line.vdev))))) x said → IfOk x (λ c. c ≡ course.Went (pos 0))
@@ -200,7 +200,7 @@ made_good old now last t places line volid unit stamp r x may when formatted is 
     (refused mid new (M733 (decimal_of unit.unit.blocks) (letter_text line.letter) (device_text line.vdev)) (pos 0) x does went refl)
 
 -- or the device failed, and that is typed
-pub made_bad : (old : Spot) (now last : Seen) (t : Accesses) (places : Places) (line : FormatLine) (volid : List ℕ) (unit : UnitInfo) (stamp : Stamp) (r : Result ⊤ DiskFault)
+pub made_bad : (old : Spot) (now last : Seen) (t : AccessTable) (places : Places) (line : FormatLine) (volid : List ℕ) (unit : UnitInfo) (stamp : Stamp) (r : Result ⊤ DiskFault)
     (x : Result declared.Course End) → (may : MayRemake old.state line unit) → stamp ≡ stamp_of old.state.moment → Formatted old now t line volid unit stamp r → made_of r ≡ Ok false
     → ((p : Placed old.state line unit) → places ≡ places_left old.state p.place line.letter)
     → Does now last (saying (typed_line (message_text (M105 (device_text line.vdev))))) x said → IfOk x (λ c. c ≡ course.Went (pos 100))
@@ -218,7 +218,7 @@ made_bad old now last t places line volid unit stamp r x may when formatted is k
     (refused mid new (M105 (device_text line.vdev)) (pos 100) x does went refl)
 
 -- or there was no memory
-pub made_starved : (old : Spot) (now : Seen) (t : Accesses) (st : State) (line : FormatLine) (volid : List ℕ) (unit : UnitInfo) (stamp : Stamp) (r : Result ⊤ DiskFault) (e : End)
+pub made_starved : (old : Spot) (now : Seen) (t : AccessTable) (st : State) (line : FormatLine) (volid : List ℕ) (unit : UnitInfo) (stamp : Stamp) (r : Result ⊤ DiskFault) (e : End)
     → MayRemake old.state line unit → Formatted old now t line volid unit stamp r → made_of r ≡ Err e → st.table ≡ t
     → Acts {T = declared.Course} old (spot_at now st) (remaking_tree old.state line volid) (Err e) (course_of st)
 made_starved old now t st line volid unit stamp r e may formatted is there =

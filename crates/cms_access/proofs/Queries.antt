@@ -16,14 +16,14 @@ use Rattle.cms_model.specs.Sizes.{free_count}
 use Rattle.cms_model.specs.LawsUpdates.{now}
 use Rattle.cms_machine.specs.Acts.{Act, Done, bind, saying, typed_line}
 use Rattle.cms_machine.specs.Slots.{Slot}
+use Rattle.cms_held.specs.HeldVolumes.{HeldFile, HeldVolume}
 use Rattle.cms_held.specs.LawsHeld.{HasRoomOf}
-use Rattle.cms_held.specs.Opening.{HeldFile, HeldVolume}
 use Rattle.cms_held.proofs.HeldFiles.{opened_has_room}
-use Rattle.cms_edf.specs.Asking.{info_of, infos_in}
+use Rattle.cms_edf.specs.FilesTold.{info_of, infos_in}
 use Rattle.cms_edf.specs.declared.held.FileInfo.{FileInfo}
 use Rattle.cms_disk.specs.Disks.{Accessed, IsMinidisk}
 use Rattle.cms_disk.specs.declared.unit.UnitInfo.{UnitInfo}
-use Rattle.cms_disk.proofs.Finding.{stands_tells}
+use Rattle.cms_disk.proofs.FilesFound.{stands_tells}
 use Rattle.cms_line.specs.Messages.{message_text}
 use Rattle.cms_line.specs.declared.message.Message.TheVariants.{M069}
 use Rattle.cms_text.specs.Texts.{coded}
@@ -33,7 +33,7 @@ use Rattle.cms_search.specs.Machine.{Course, Letter, Machine, Went, letter_at, m
 use Rattle.cms_search.specs.Refusals.{no_disk}
 use Rattle.cms_search.specs.Searches.{item_at, places_from}
 use Rattle.cms_search.specs.Shows.{device_of}
-use Rattle.cms_search.specs.Tables.{Accesses, Seated, letters_of}
+use Rattle.cms_search.specs.Tables.{AccessTable, Seated, letters_of}
 use Rattle.cms_search.specs.Texts.{letter_text}
 use Rattle.cms_search.specs.Units.{vdev_of}
 use Rattle.cms_search.specs.declared.state.Course as declared
@@ -175,7 +175,7 @@ pub line_told : (shown : Shown) (told : Told) (s : State) (units : List Slot) (n
 line_told shown None s units n h = absurd h
 line_told shown (Some j) s units n h = line_held shown j s units n h
 
-pub table_long : (told : Told) (t : Accesses) (units : List Slot) → Holds told t units → length t.seats ≡ 26
+pub table_long : (told : Told) (t : AccessTable) (units : List Slot) → Holds told t units → length t.seats ≡ 26
 table_long None t units h = absurd h
 table_long (Some j) t units h = h.table.letters
 
@@ -249,20 +249,20 @@ lines_stop before mid now text lines x e a b =
 
 -- ---- a letter's line
 
-pub none_told : (shown : Shown) (w : Seen) (t : Accesses) (n : ℕ) (x : Unit {0}) → item_at t.seats n ≡ None → Does w w (typing (seat_lines shown t n) nothing) (Ok x) said
+pub none_told : (shown : Shown) (w : Seen) (t : AccessTable) (n : ℕ) (x : Unit {0}) → item_at t.seats n ≡ None → Does w w (typing (seat_lines shown t n) nothing) (Ok x) said
 none_told shown w t n x none =
     let lines : seat_lines shown t n ≡ [] = ap (λ (s : Option Seated). option_map_or (λ s. seat_text shown n (device_in t s) s ∷ []) s []) none in
     subst (λ (l : List (List ℕ)). Does w w (typing l nothing) (Ok x) said) (sym lines)
     (subst (λ (a : Act (Unit {0})). Does w w a (Ok x) said) (sym typing_none) (silent w x))
 
-pub no_disk_told : (t : Accesses) (n : ℕ) → None ≡ option_map (λ (s : Seated). s.disk) (item_at t.seats n) → item_at t.seats n ≡ None
+pub no_disk_told : (t : AccessTable) (n : ℕ) → None ≡ option_map (λ (s : Seated). s.disk) (item_at t.seats n) → item_at t.seats n ≡ None
 no_disk_told t n is = cases (item_at t.seats n) is
   where
     cases : (x : Option Seated) → None ≡ option_map (λ (s : Seated). s.disk) x → x ≡ None
     cases None is = refl
     cases (Some s) is = absurd (cc is)
 
-pub one_told : (shown : Shown) (t : Accesses) (n : ℕ) (seat : Seat) (d : Accessed) (line : List ℕ)
+pub one_told : (shown : Shown) (t : AccessTable) (n : ℕ) (seat : Seat) (d : Accessed) (line : List ℕ)
     → ((s : Seated) → item_at t.seats n ≡ Some s → (seat.parent ≡ s.letter.parent) × (seat.read_only ≡ s.letter.read_only)
     × (option_map (λ (unit : UnitInfo). unit.vdev) (slice_get t.units s.letter.unit) ≡ Some seat.vdev))
     → Some d ≡ option_map (λ (s : Seated). s.disk) (item_at t.seats n)

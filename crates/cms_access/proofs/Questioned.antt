@@ -17,7 +17,7 @@ use Rattle.cms_search.specs.Asks as asking
 use Rattle.cms_search.specs.Calls.{Acts, Does, Meaning, Spot, course_of, itself, machine_of, said, spot_at}
 use Rattle.cms_search.specs.Machine.{Course, Machine, Went}
 use Rattle.cms_search.specs.Shows.{device_of, devices_of}
-use Rattle.cms_search.specs.Tables.{Accesses, place_of_device, unit_of_device}
+use Rattle.cms_search.specs.Tables.{AccessTable, place_of_device, unit_of_device}
 use Rattle.cms_search.specs.declared.state.Course as declared
 use Rattle.cms_search.specs.declared.state.Course.TheVariants as course
 use Rattle.cms_search.specs.declared.state.Device.{Device}
@@ -33,7 +33,7 @@ use Rattle.cms_access.specs.declared.questions.Label.TheVariants as label
 
 -- ---- the line
 
-pub size_told : (t : Accesses) (vdev : ℕ) → size_of (devices_of t) vdev ≡ option_map (λ (unit : UnitInfo). unit.bsize) (unit_of_device vdev t.units)
+pub size_told : (t : AccessTable) (vdev : ℕ) → size_of (devices_of t) vdev ≡ option_map (λ (unit : UnitInfo). unit.bsize) (unit_of_device vdev t.units)
 size_told t vdev =
     ap (λ (p : Option ℕ). option_map (λ (d : Device). d.bsize) (option_and_then (λ u. slice_get (devices_of t) u) p)) (unit_told vdev t.units)
     ∙ go (place_of_device vdev t.units)

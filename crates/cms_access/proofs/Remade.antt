@@ -28,19 +28,19 @@ use Rattle.cms_machine.specs.Steps.{EitherFault, Good, IsOf, Make, OldFault, Out
 use Rattle.cms_machine.proofs.Join.{ran_then}
 use Rattle.cms_machine.proofs.Single.{ran_step}
 use Rattle.cms_machine.proofs.Units.{get_other, get_same, other_slot, units_put}
-use Rattle.cms_line.specs.ConsoleState.{ConsoleState}
+use Rattle.cms_line.specs.ConsoleState.{Console}
 use Rattle.cms_line.specs.Messages.{message_text}
 use Rattle.cms_line.specs.declared.message.Message.TheVariants.{M105, M733}
 use Rattle.cms_world.specs.Seen.{ChangesUnits}
-use Rattle.cms_disk.specs.Changing.{HasState, IsDevices, IsWholeAt}
+use Rattle.cms_disk.specs.Changes.{HasState, IsDevices, IsWholeAt}
+use Rattle.cms_disk.specs.CrashStates.{LooksAs}
 use Rattle.cms_disk.specs.Disks.{Accessed, IsMinidisk, IsOn, IsQuiet, disk_on}
-use Rattle.cms_disk.specs.Leaving.{LooksAs}
-use Rattle.cms_disk.specs.Making as makes
-use Rattle.cms_disk.specs.Making.{Doubted, Emptied, Formats, IsReady, Made, empty_on}
+use Rattle.cms_disk.specs.EmptyMinidisks as makes
+use Rattle.cms_disk.specs.EmptyMinidisks.{Doubted, Emptied, Formats, IsReady, Made, empty_on}
 use Rattle.cms_disk.specs.declared.fault.DiskFault.{DiskFault}
 use Rattle.cms_disk.specs.declared.fault.DiskFault.TheVariants as failed
 use Rattle.cms_disk.specs.declared.unit.UnitInfo.{UnitInfo}
-use Rattle.cms_disk.proofs.Leaving.{covers_looked}
+use Rattle.cms_disk.proofs.CrashStates.{covers_looked}
 use Rattle.cms_search.specs.Calls.{Comes, Holds, IsLater, IsSeatOf, IsUsable, IsUsableTable, Spot, Usable, at, holds, machine_of, refusal_tree}
 use Rattle.cms_search.specs.Format as formatting
 use Rattle.cms_search.specs.Format.{table_made}
@@ -49,7 +49,7 @@ use Rattle.cms_search.specs.Machine.{Course, Letter, Machine, Places, Went, afte
 use Rattle.cms_search.specs.Searches.{item_at}
 use Rattle.cms_search.specs.Shows.{device_of}
 use Rattle.cms_search.specs.Tables as tables
-use Rattle.cms_search.specs.Tables.{Accesses, IsTable, Seated, cleared, letter_for, letters_of, marked, place_of_device, without}
+use Rattle.cms_search.specs.Tables.{AccessTable, IsTable, Seated, cleared, letter_for, letters_of, marked, place_of_device, without}
 use Rattle.cms_search.specs.Texts.{device_text, letter_text}
 use Rattle.cms_search.specs.Units.{forgotten, left_by, released}
 use Rattle.cms_search.specs.declared.state.Device.{Device}
@@ -118,7 +118,7 @@ released_left st u n units =
 abbrev pub state_made : State → ℕ → UnitInfo → ℕ → Result Accessed DiskFault → State
 state_made st u unit n made = record st { table = table_made st.table u unit n made; places = places_left st u n }
 
-letters_failed : (t : Accesses) (u n : ℕ) (doubt : Bool) → letters_of (formatting.vacated u n (marked u doubt t)) ≡ without (of_unit u) (cleared n (letters_of t))
+letters_failed : (t : AccessTable) (u n : ℕ) (doubt : Bool) → letters_of (formatting.vacated u n (marked u doubt t)) ≡ without (of_unit u) (cleared n (letters_of t))
 letters_failed t u n doubt = letters_without u (cleared n t.seats) ∙ ap (λ (l : List (Option Letter)). without (of_unit u) l) (letters_cleared t.seats n)
 
 machine_failed : (st : State) (u n : ℕ) (doubt : Bool) (units : List Slot)
@@ -264,11 +264,11 @@ touched_then old mid new units units' units'' u unit slot slot' a b = record {
 }
 
 -- other units have the marks and disks that they have where letter n is released
-abbrev KeepsOthers : Accesses → Accesses → ℕ → ℕ → Type 0
+abbrev KeepsOthers : AccessTable → AccessTable → ℕ → ℕ → Type 0
 KeepsOthers t t' u n = (v : ℕ) → u ≢ v → (slice_get t'.doubts v ≡ slice_get t.doubts v) × (disk_of v t'.seats ≡ disk_of v (cleared n t.seats))
 
 -- what is held then
-holds_then : (old new : Told) (j : Journal) (units units' : List Slot) (t t' : Accesses) (u n : ℕ) (unit : UnitInfo) (slot : Slot) (doubt : Bool) → old ≡ Some j → HoldsTable j units t
+holds_then : (old new : Told) (j : Journal) (units units' : List Slot) (t t' : AccessTable) (u n : ℕ) (unit : UnitInfo) (slot : Slot) (doubt : Bool) → old ≡ Some j → HoldsTable j units t
     → slice_get t.units u ≡ Some unit → (x : Touched old new units units' u unit slot) → IsTable t' → t'.units ≡ t.units → KeepsOthers t t' u n → slice_get t'.doubts u ≡ Some doubt
     → StandsAs (after j x.events) u unit slot doubt (disk_of u t'.seats) → Holds new t' units'
 holds_then old new j units units' t t' u n unit slot doubt is h has x table same others marked' stands =
@@ -296,32 +296,32 @@ holds_then old new j units units' t t' u n unit slot doubt is h has x table same
 
 -- ---- the table then
 
-others_failed : (t : Accesses) (u n : ℕ) (doubt : Bool) → KeepsOthers t (formatting.vacated u n (marked u doubt t)) u n
+others_failed : (t : AccessTable) (u n : ℕ) (doubt : Bool) → KeepsOthers t (formatting.vacated u n (marked u doubt t)) u n
 others_failed t u n doubt v apart = (get_other t.doubts u v doubt (λ same. apart (sym same)), disk_without u v (cleared n t.seats) apart)
 
-others_made : (t : Accesses) (u n : ℕ) (s : Seated) → s.letter.unit ≡ u → KeepsOthers t (tables.seated n s (marked u false t)) u n
+others_made : (t : AccessTable) (u n : ℕ) (s : Seated) → s.letter.unit ≡ u → KeepsOthers t (tables.seated n s (marked u false t)) u n
 others_made t u n s own v apart =
     (get_other t.doubts u v false (λ same. apart (sym same)), disk_beside v n s t.seats (λ same. apart (sym own ∙ same)))
 
 -- the unit stands on no letter
-none_failed : (t : Accesses) (u n : ℕ) (doubt : Bool) → disk_of u (formatting.vacated u n (marked u doubt t)).seats ≡ None
+none_failed : (t : AccessTable) (u n : ℕ) (doubt : Bool) → disk_of u (formatting.vacated u n (marked u doubt t)).seats ≡ None
 none_failed t u n doubt = disk_none u (formatting.vacated u n (marked u doubt t)).seats
     (λ a x is same. true≢false (sym (eq-eqb x.letter.unit u same) ∙ (item_without (λ (e : Seated). e.letter.unit == u) (cleared n t.seats) a x is).1))
 
-marked_there : (t : Accesses) (u : ℕ) (unit : UnitInfo) (doubt : Bool) → IsTable t → slice_get t.units u ≡ Some unit → slice_get (slice_set t.doubts u doubt) u ≡ Some doubt
+marked_there : (t : AccessTable) (u : ℕ) (unit : UnitInfo) (doubt : Bool) → IsTable t → slice_get t.units u ≡ Some unit → slice_get (slice_set t.doubts u doubt) u ≡ Some doubt
 marked_there t u unit doubt is has =
     let within = slice_get_within t.units u unit has in
     let long = is.doubts in
     get_same t.doubts u u doubt (omega (arith, within, long)) refl
 
 -- what may be used may be used still
-usable_failed : (j : Journal) (t : Accesses) (u n : ℕ) (doubt : Bool) → IsUsableTable j t → IsUsableTable j (formatting.vacated u n (marked u doubt t))
+usable_failed : (j : Journal) (t : AccessTable) (u n : ℕ) (doubt : Bool) → IsUsableTable j t → IsUsableTable j (formatting.vacated u n (marked u doubt t))
 usable_failed j t u n doubt usable = record {
   units = usable.units;
   seats = λ a x unit is has. usable.seats a x unit (stays t n a x (item_without (λ (e : Seated). e.letter.unit == u) (cleared n t.seats) a x is).0).1 has;
 }
 
-usable_made : (j : Journal) (t : Accesses) (u n : ℕ) (unit : UnitInfo) (s : Seated) → s.letter.unit ≡ u → slice_get t.units u ≡ Some unit → IsSeatOf unit s → IsUsableTable j t
+usable_made : (j : Journal) (t : AccessTable) (u n : ℕ) (unit : UnitInfo) (s : Seated) → s.letter.unit ≡ u → slice_get t.units u ≡ Some unit → IsSeatOf unit s → IsUsableTable j t
     → IsUsableTable j (tables.seated n s (marked u false t))
 usable_made j t u n unit s own has seat usable = record {
   units = usable.units;
@@ -367,8 +367,8 @@ tree_is st units line volid u unit before place has slot =
 keeps_console : (old mid : Spot) (p m : Point) → p.unread ≡ old.state.console.unread → p.ended ≡ old.state.console.ended → m.unread ≡ mid.state.console.unread
     → m.ended ≡ mid.state.console.ended → mid.state.console ≡ old.state.console → KeepsConsole p m
 keeps_console old mid p m unread ended unread' ended' console = record {
-  unread = unread' ∙ ap (λ (c : ConsoleState). c.unread) console ∙ sym unread;
-  ended = ended' ∙ ap (λ (c : ConsoleState). c.ended) console ∙ sym ended;
+  unread = unread' ∙ ap (λ (c : Console). c.unread) console ∙ sym unread;
+  ended = ended' ∙ ap (λ (c : Console). c.ended) console ∙ sym ended;
 }
 
 abbrev wiped_units : List Slot → ℕ → disks.State → List Slot

@@ -6,7 +6,7 @@ use Rattle.cms_disk.specs.declared.fault.DiskFault.TheVariants as failed
 use Rattle.cms_disk.specs.declared.unit.UnitInfo.{UnitInfo}
 use Rattle.cms_search.specs.Machine.{Places}
 use Rattle.cms_search.specs.Places.{after}
-use Rattle.cms_search.specs.Tables.{Accesses, place_of_device, unit_of_device}
+use Rattle.cms_search.specs.Tables.{AccessTable, place_of_device, unit_of_device}
 use Rattle.cms_search.specs.declared.place_event.PlaceEvent.TheVariants as event
 use Rattle.cms_search.specs.declared.state.End.{End}
 use Rattle.cms_search.specs.declared.state.End.TheVariants.{Memory}
@@ -15,7 +15,7 @@ use Rattle.cms_search.specs.declared.table.Seat.{Seat}
 use Rattle.cms_access.specs.declared.format.FormatLine.{FormatLine}
 
 -- the unit of a device is in doubt
-abbrev pub is_marked : ℕ → Accesses → Bool
+abbrev pub is_marked : ℕ → AccessTable → Bool
 is_marked vdev t = unwrap_or (option_and_then (λ u. slice_get t.doubts u) (place_of_device vdev t.units)) false
 
 -- the line's device is this unit, which may be written, isn't in doubt, and is large enough; and its letter is one

@@ -22,10 +22,10 @@ use Rattle.cms_operands.specs.Choices.{chosen_of, flag, form}
 use Rattle.cms_search.specs.Machine.{Letter, Machine, Course, Went, OutOfTurns, after_step, letter_at, refusal}
 use Rattle.cms_operands.specs.Operands.{device, ended, largest, letter, needed, operands_of}
 use Rattle.cms_search.specs.Tables.{letter_for}
-use Rattle.cms_operands.specs.declared.choosing.ChosenOption.{ChosenOption}
-use Rattle.cms_operands.specs.declared.choosing.OptionForm.{OptionForm}
-use Rattle.cms_operands.specs.declared.choosing.Parameter.{Parameter}
-use Rattle.cms_operands.specs.declared.choosing.Parameter.TheVariants as takes
+use Rattle.cms_operands.specs.declared.options.ChosenOption.{ChosenOption}
+use Rattle.cms_operands.specs.declared.options.OptionForm.{OptionForm}
+use Rattle.cms_operands.specs.declared.options.Parameter.{Parameter}
+use Rattle.cms_operands.specs.declared.options.Parameter.TheVariants as takes
 use Rattle.cms_operands.specs.declared.refusal.Refusal.{Refusal}
 use Rattle.cms_search.specs.declared.state.Device.{Device}
 use Rattle.cms_access.specs.declared.format.FormatLine.{FormatLine}

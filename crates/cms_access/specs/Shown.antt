@@ -2,10 +2,10 @@
 use Rattle.std.specs.Prelude.{ℕ, zero, suc, Bool, not, ◌==◌, ◌&&◌, List, [], ◌∷◌, ◌++◌, count_by, length, slice_get}
 use Rattle.std.specs.Option.{option_map_or}
 use Rattle.cms_map.specs.Bits.{free_blocks}
-use Rattle.cms_edf.specs.Asking.{infos_in}
-use Rattle.cms_held.specs.Opening.{HeldVolume}
+use Rattle.cms_edf.specs.FilesTold.{infos_in}
+use Rattle.cms_held.specs.HeldVolumes.{HeldVolume}
 use Rattle.cms_search.specs.Searches.{item_at}
-use Rattle.cms_search.specs.Tables.{Accesses, Seated}
+use Rattle.cms_search.specs.Tables.{AccessTable, Seated}
 use Rattle.cms_access.specs.Query.{disk_text, search_text}
 use Rattle.cms_access.specs.declared.shown.Shown.{Shown}
 use Rattle.cms_access.specs.declared.shown.Shown.TheVariants.{Disk, Search}
@@ -21,11 +21,11 @@ seat_text Disk n vdev s = disk_text n vdev s.letter.read_only s.disk.volume.labe
 seat_text Search n vdev s = search_text n vdev s.letter.parent s.letter.read_only s.disk.volume.label.volid
 
 -- the device of a seated disk
-abbrev pub device_in : Accesses → Seated → ℕ
+abbrev pub device_in : AccessTable → Seated → ℕ
 device_in t s = option_map_or (λ unit. unit.vdev) (slice_get t.units s.letter.unit) 0
 
 -- the line of a letter's disk, where it is accessed
-abbrev pub seat_lines : Shown → Accesses → ℕ → List (List ℕ)
+abbrev pub seat_lines : Shown → AccessTable → ℕ → List (List ℕ)
 seat_lines shown t n = option_map_or (λ s. seat_text shown n (device_in t s) s ∷ []) (item_at t.seats n) []
 
 -- those of so many letters from one on

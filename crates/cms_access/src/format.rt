@@ -29,7 +29,7 @@ use cms_operands::{
     ended, letter, needed, operands,
 };
 use cms_search::{
-    Asked, Course, End, NO_DISK, State, Table, change_disk, device_word, letter_word, refuse,
+    AccessTable, Asked, Course, End, NO_DISK, State, change_disk, device_word, letter_word, refuse,
     refuse_command, refuse_no_device, refuse_not_accessed, refuse_read_only, tell_change,
 };
 use cms_world::World;
@@ -115,14 +115,18 @@ fn relabels(alloc: Global, bsize: Option<u32>, words: &Tokens) -> Result<bool, C
 }
 
 // The block size of a device, where a unit has it.
-fn size_of(table: &Table, vdev: u16) -> Option<u32>
+fn size_of(table: &AccessTable, vdev: u16) -> Option<u32>
     ensures { result ≡ spec.size_of (devices_of table.now) vdev }
 {
     Some(table.unit(vdev)?.bsize.bytes())
 }
 
 /// What FORMAT's line says, or why it is refused; BLKSIZE takes the block size of the device alone, where a unit has it.
-pub fn format_line(alloc: Global, table: &Table, words: &Tokens) -> Result<Formatting, CommandFault>
+pub fn format_line(
+    alloc: Global,
+    table: &AccessTable,
+    words: &Tokens,
+) -> Result<Formatting, CommandFault>
     ensures { AnswersLine (spec.format_line (devices_of table.now) words.now) result }
 {
     let line = format_operands(operands(words.as_slice()))?;

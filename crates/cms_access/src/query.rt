@@ -16,7 +16,7 @@ use cms_line::{Token, Tokens};
 use cms_operands::{
     CommandFault, Refusal, coded, ended, given_letter_or_all, needed, operands, without_options,
 };
-use cms_search::{Course, End, State, Table, refuse_command, refuse_not_accessed, say};
+use cms_search::{AccessTable, Course, End, State, refuse_command, refuse_not_accessed, say};
 use cms_text::is_keyword;
 use cms_world::World;
 use std::alloc::Global;
@@ -79,7 +79,7 @@ fn header() -> [u8; 56]
 }
 
 // Types the rooms of all disks.
-fn tell_disks<W: World>(alloc: Global, world: &mut W, table: &Table) -> Result<Course, End>
+fn tell_disks<W: World>(alloc: Global, world: &mut W, table: &AccessTable) -> Result<Course, End>
     ensures does { Does (seen W.World world.old) (seen W.World world.new)
         (typing (spec.header ∷ lines_from (λ n. seat_lines shown.Disk table.now n) 0 26) (Done tt))
         result said }
@@ -94,7 +94,7 @@ fn tell_disks<W: World>(alloc: Global, world: &mut W, table: &Table) -> Result<C
 fn tell_disk<W: World>(
     alloc: Global,
     world: &mut W,
-    table: &Table,
+    table: &AccessTable,
     letter: u8,
 ) -> Result<Course, End>
     ensures does { Does (seen W.World world.old) (seen W.World world.new)
@@ -107,7 +107,7 @@ fn tell_disk<W: World>(
 }
 
 // Types how all disks are searched.
-fn tell_search<W: World>(alloc: Global, world: &mut W, table: &Table) -> Result<Course, End>
+fn tell_search<W: World>(alloc: Global, world: &mut W, table: &AccessTable) -> Result<Course, End>
     ensures does { Does (seen W.World world.old) (seen W.World world.new)
         (typing (lines_from (λ n. seat_lines shown.Search table.now n) 0 26) (Done tt)) result
         said }

@@ -14,7 +14,8 @@ ghost use Rattle.cms_access.specs.Shown.{count_seen, lines_from, seat_lines, sea
 use cms_disk::{Minidisk, Space};
 use cms_operands::coded;
 use cms_search::{
-    End, LETTERS, Seat, Table, add_left, add_right, device_text, first_column, letter_text, say,
+    AccessTable, End, LETTERS, Seat, add_left, add_right, device_text, first_column, letter_text,
+    say,
 };
 use cms_text::{STROKE, decimal};
 use cms_world::World;
@@ -195,7 +196,7 @@ fn seat_text(
 pub fn type_disk<W: World>(
     alloc: Global,
     world: &mut W,
-    table: &Table,
+    table: &AccessTable,
     shown: Shown,
     letter: u8,
 ) -> Result<(), End>
@@ -216,7 +217,7 @@ pub fn type_disk<W: World>(
 pub fn type_disks<W: World>(
     alloc: Global,
     world: &mut W,
-    table: &Table,
+    table: &AccessTable,
     shown: Shown,
 ) -> Result<(), End>
     ensures { Does (seen W.World world.old) (seen W.World world.new)

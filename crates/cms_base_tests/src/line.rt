@@ -5,5 +5,5 @@ mod messages;
 mod options;
 mod pieces;
 mod stacks;
-mod telling;
-mod typing;
+mod typed_lines;
+mod words;

@@ -9,11 +9,11 @@ use Rattle.cms_machine.specs.Slots.{Slot}
 use Rattle.cms_line.specs.declared.token.Token.{Token}
 use Rattle.cms_operands.specs.Choices.{AnswersLine}
 use Rattle.cms_operands.specs.Refusals.{code_of, message_of}
-use Rattle.cms_operands.specs.declared.choosing.CommandFault.{CommandFault}
-use Rattle.cms_operands.specs.declared.choosing.CommandFault.TheVariants as line
+use Rattle.cms_operands.specs.declared.options.CommandFault.{CommandFault}
+use Rattle.cms_operands.specs.declared.options.CommandFault.TheVariants as line
 use Rattle.cms_operands.specs.declared.refusal.Refusal.{Refusal}
 use Rattle.cms_records.specs.Stored.{records_in}
-use Rattle.cms_records.proofs.Reading.{records_are}
+use Rattle.cms_records.proofs.StoredRecords.{records_are}
 use Rattle.cms_search.specs.Calls.{Acts, Meaning, Spot, course_of, machine_of, refusal_tree, spot_at}
 use Rattle.cms_search.specs.LineRefused.{RefusesLine}
 use Rattle.cms_search.specs.Machine.{Course, Machine}

@@ -20,11 +20,11 @@ use Rattle.cms_line.specs.declared.message.Message.{Message}
 use Rattle.cms_line.specs.declared.message.Message.TheVariants.{M105, M120, M123}
 use Rattle.cms_line.specs.declared.token.Token.{Token}
 use Rattle.cms_records.specs.Stored.{records_in}
-use Rattle.cms_records.proofs.Reading.{records_are}
+use Rattle.cms_records.proofs.StoredRecords.{records_are}
 use Rattle.cms_edf.specs.OpeningSteps.{OfImage}
 use Rattle.cms_edf.specs.declared.held.FileInfo.{FileInfo}
 use Rattle.cms_disk.specs.Disks.{Accessed, IsReadable, StandsIn, place_of}
-use Rattle.cms_disk.specs.Getting.{GetsIn, IsDataOf}
+use Rattle.cms_disk.specs.Gets.{GetsIn, IsDataOf}
 use Rattle.cms_disk.specs.declared.fault.DiskFault.{DiskFault}
 use Rattle.cms_disk.specs.declared.fault.DiskFault.TheVariants as failed
 use Rattle.cms_disk.specs.declared.unit.UnitInfo.{UnitInfo}

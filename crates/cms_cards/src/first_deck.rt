@@ -21,7 +21,7 @@ use cms_files::{Gathered, NO_FILE, refuse_unfound, write_last};
 use cms_line::{Message, Tokens};
 use cms_names::Format;
 use cms_operands::{WriteMode, coded};
-use cms_search::{Course, End, FileWrite, State, Table, refuse};
+use cms_search::{AccessTable, Course, End, FileWrite, State, refuse};
 use cms_world::World;
 use std::alloc::{AllocError, Global};
 
@@ -86,7 +86,7 @@ fn cards_data(alloc: Global, deck: &Deck, number: u8, stamp: &Stamp) -> Result<F
 }
 
 // The mode number of the file: that of the one that is there, else the operand's, or 1.
-fn number_for(table: &Table, target: &ReadTarget) -> u8
+fn number_for(table: &AccessTable, target: &ReadTarget) -> u8
     requires { IfSome target.now.mode.number (λ k. k ≤ 6) }
     ensures told { result ≡ number_told target.now.mode.number
         (info_named table.now target.now.mode.letter target.now.name) }

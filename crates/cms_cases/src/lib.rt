@@ -3,9 +3,9 @@
 #![tactic(auto)]
 
 mod rows;
-mod saying;
-mod telling;
+mod values;
+mod words;
 
 pub use rows::{Subject, try_rows};
-pub use saying::{byte, bytes_of, number, word, written_out};
-pub use telling::{ascii, push_ascii, told};
+pub use values::{ascii, push_ascii, told};
+pub use words::{byte, bytes_of, number, word, written_out};

@@ -1,5 +1,5 @@
 // Rows, and the loop that tries them.
-use crate::saying::written_out;
+use crate::words::written_out;
 use std::alloc::{AllocError, Global};
 use std::env::var;
 use std::test::Fail;

@@ -4,7 +4,7 @@ use Rattle.std.proofs.Math.Nat.{mul-add}
 use Rattle.std.specs.Prelude.{All}
 use Rattle.std.specs.Option.{option_and_then}
 use Rattle.std.proofs.lemmas.Option.{same_Some}
-use Rattle.cms_edf.specs.Asking.{infos_in, stored_in}
+use Rattle.cms_edf.specs.FilesTold.{infos_in, stored_in}
 use Rattle.cms_edf.specs.declared.held.FileInfo.{FileInfo}
 use Rattle.cms_fields.specs.Limits.{longest_record}
 use Rattle.cms_fields.specs.Moments.{stamp_of}
@@ -16,7 +16,7 @@ use Rattle.cms_names.specs.declared.name.Name.{Name}
 use Rattle.cms_draft.specs.declared.shape.DraftShape.{DraftShape}
 use Rattle.cms_disk.specs.Additions.{CanExtend, HaveShapeBehind, MayExtend}
 use Rattle.cms_disk.specs.Disks.{IsFileInfo, place_of}
-use Rattle.cms_held.specs.Growing.{length_with}
+use Rattle.cms_held.specs.Growths.{length_with}
 use Rattle.cms_held.specs.Kept.{IsSized}
 use Rattle.cms_model.specs.Changes.{Add}
 use Rattle.cms_model.specs.Minidisks.{File}
@@ -26,7 +26,7 @@ use Rattle.cms_search.specs.Calls.{Spot, machine_of}
 use Rattle.cms_search.specs.Machine.{Machine, letter_at}
 use Rattle.cms_search.specs.Searches.{item_at}
 use Rattle.cms_search.specs.Shows.{Shows}
-use Rattle.cms_search.specs.Tables.{Accesses, Seated}
+use Rattle.cms_search.specs.Tables.{AccessTable, Seated}
 use Rattle.cms_search.specs.declared.fault.SearchFault.{SearchFault}
 use Rattle.cms_search.proofs.LetterDisks.{holds_shows}
 use Rattle.cms_files.specs.Files.{UnitFile, file_on}
@@ -175,7 +175,7 @@ abbrev bytes_in : Name → Option Seated → Option ℕ
 bytes_in name x = option_and_then (λ s. option_and_then (λ place. slice_get (stored_in s.disk.volume) place) (place_of name s.disk.volume)) x
 
 -- a file can be extended as what is told of it says
-pub extends_on : (t : Accesses) (n : ℕ) (name : Name) (s : Seated) (own : FileInfo) (bytes : ℕ) (shape : DraftShape) → item_at t.seats n ≡ Some s → Some own ≡ info_named t n name
+pub extends_on : (t : AccessTable) (n : ℕ) (name : Name) (s : Seated) (own : FileInfo) (bytes : ℕ) (shape : DraftShape) → item_at t.seats n ≡ Some s → Some own ≡ info_named t n name
     → Some bytes ≡ stored_named t n name → CanExtend own bytes shape → MayExtend s.disk.volume name shape
 extends_on t n name s own bytes shape at own_is bytes_are can info bytes' told =
     let v = s.disk.volume in

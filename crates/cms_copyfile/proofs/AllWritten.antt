@@ -15,8 +15,8 @@ use Rattle.cms_machine.specs.Slots.{Settled, Slot}
 use Rattle.cms_machine.specs.Steps.{Get, OldFault, is_relabel}
 use Rattle.cms_draft.specs.declared.shape.DraftShape.{DraftShape}
 use Rattle.cms_line.specs.declared.token.Token.{Token}
-use Rattle.cms_line.specs.ConsoleState.{ConsoleState}
-use Rattle.cms_disk.specs.Changing.{Appends}
+use Rattle.cms_line.specs.ConsoleState.{Console}
+use Rattle.cms_disk.specs.Changes.{Appends}
 use Rattle.cms_disk.specs.Disks.{Accessed}
 use Rattle.cms_disk.specs.Drafts.{WritesAside}
 use Rattle.cms_disk.specs.declared.fault.DiskFault.{DiskFault}
@@ -28,7 +28,7 @@ use Rattle.cms_search.specs.FileWrites.{Updated}
 use Rattle.cms_search.specs.Machine.{Letter, Machine, letter_at}
 use Rattle.cms_search.specs.Searches.{item_at}
 use Rattle.cms_search.specs.Seats.{HasDisk}
-use Rattle.cms_search.specs.Tables.{Accesses, Seated}
+use Rattle.cms_search.specs.Tables.{AccessTable, Seated}
 use Rattle.cms_search.specs.Units.{vdev_of}
 use Rattle.cms_search.specs.declared.state.End.{End}
 use Rattle.cms_search.specs.declared.state.State.{State}
@@ -105,7 +105,7 @@ module _ (mid now : Spot) (to : CopyTarget) (all : List Slot → List (List ℕ)
       let e = w.seat.disk in
       let table : now.state.table ≡ table_with t to.letter s e = w.seat.table ∙ with_disk_is t to.letter s e w.there in
       let grown = usable_grown mid.world.told now.world.told t w.seat.does.changes.units.grown usable in
-      subst (λ (x : Accesses). Usable now.world.told x) (sym table) (λ j at. usable_with j t to.letter s e w.there w.seat.does.changes.same (grown j at))
+      subst (λ (x : AccessTable). Usable now.world.told x) (sym table) (λ j at. usable_with j t to.letter s e w.there w.seat.does.changes.same (grown j at))
 
 -- the change is of the file of that name
 pub names_as : (write : CopyWrite) (name : Name) (shape : DraftShape) (all : List (List ℕ)) → names_of (change_as write name shape all) ≡ name ∷ []
@@ -157,7 +157,7 @@ same_machine : (st st' : State) (n : ℕ) (s : Seated) (units : List Slot) (IsSo
 same_machine st st' n s units IsSo at h same =
     let table : st'.table ≡ table_with st.table n s h.disk = h.table ∙ with_disk_is st.table n s h.disk at in
     sym (ap (λ (l : List (Option Letter)). record (machine_of st units) { letters = l }) (letters_with st.table.seats n s h.disk at))
-    ∙ (ap (λ (t : Accesses). machine_of (record st { table = t }) units) (sym table) ∙ ap (λ (z : State). machine_of z units) (sym same))
+    ∙ (ap (λ (t : AccessTable). machine_of (record st { table = t }) units) (sym table) ∙ ap (λ (z : State). machine_of z units) (sym same))
 
 module _ (before : Seen) (mid now : Spot) (words : List Token) (line : CopyLine) (c : FileCopy) (file : OpenFile) (to : CopyTarget) (all : List Slot → List (List ℕ)) (change : List Slot → Change)
     (s : Seated) (read : HasRead before mid.world) (is : IsFileCopy mid.state.table line c) (opened : IsOpened mid.state.table c.found.letter c.found.name file)
@@ -203,7 +203,7 @@ module _ (before : Seen) (mid now : Spot) (words : List Token) (line : CopyLine)
       let ran = read_failed_beside (at (first before mid) units) (at now units) s.disk m drafted x.file.unit x.file.file (wanted_in line x.file)
       (behind_read (machine_of mid.state units) line c x.file (change units)) (input.offers (wanted_in line x.file) (wanted_low line.style (length x.file.file.records)))
       (counted_one before.faults now.world.faults (omega (arith, read.faults, w.seat.does.changes.units.faults)) (rose_from before.faults mid.world.faults now.world.faults read.faults rose))
-      (record { unread = ap (λ (z : ConsoleState). z.unread) console; ended = ap (λ (z : ConsoleState). z.ended) console }) in
+      (record { unread = ap (λ (z : Console). z.unread) console; ended = ap (λ (z : Console). z.ended) console }) in
       let tree = tree_at before mid words line c file change read is opened changes units h in
       let device = device_is mid.state opened.seat units file.vdev opened.device in (
         held,

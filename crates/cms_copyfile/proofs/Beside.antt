@@ -18,15 +18,15 @@ use Rattle.cms_model.specs.Trees.{Image, Met, image_of}
 use Rattle.cms_model.specs.Volumes.{Disk, blocks_of}
 use Rattle.cms_model.proofs.Images.{crash_now}
 use Rattle.cms_model.proofs.Members.{In-right, agree_back}
-use Rattle.cms_model.proofs.Opening.{open_ok}
-use Rattle.cms_model.proofs.Settling.{aside_is_as_before, crash_agrees}
+use Rattle.cms_model.proofs.OpenedVolumes.{open_ok}
+use Rattle.cms_model.proofs.SettledUnits.{aside_is_as_before, crash_agrees}
 use Rattle.cms_model.proofs.VolumeFrame.{LeavesIn, bytes_keep, trees_inside}
 use Rattle.cms_records.specs.Pieces.{bytes_so_far, next_place}
 use Rattle.cms_tree.proofs.Own.{in_drop}
 use Rattle.cms_edf.proofs.Listings.{stands}
 use Rattle.cms_held.specs.HeldAs.{AreHeld}
-use Rattle.cms_held.specs.Opening.{HeldFile}
-use Rattle.cms_disk.specs.Cursors.{HasLeft, HoldLeft, Reading}
+use Rattle.cms_held.specs.HeldVolumes.{HeldFile}
+use Rattle.cms_disk.specs.Cursors.{HasLeft, HoldLeft, Cursor}
 use Rattle.cms_disk.specs.Disks.{Accessed, IsMinidisk}
 use Rattle.cms_disk.specs.Drafts.{WritesAside}
 
@@ -80,7 +80,7 @@ leaves_agree j k d m place h is aside at n in' =
 
 -- ---- the records that are left
 
-pub left_there : (before later : Image) (c : Reading) (records : List (List ℕ)) → Agree c.leaves before later → HasLeft before c records → HasLeft later c records
+pub left_there : (before later : Image) (c : Cursor) (records : List (List ℕ)) → Agree c.leaves before later → HasLeft before c records → HasLeft later c records
 left_there before later c records agree left = record {
   sound = left.sound;
   sizes = λ k less. ap length (sym (agree (slice_index c.leaves k) (stands c.leaves k less))) ∙ left.sizes k less;
@@ -89,7 +89,7 @@ left_there before later c records agree left = record {
 }
 
 -- of a file of the minidisk beside which was written, from one moment to another at which it stands
-pub left_beside : (j k : Journal) (d : Accessed) (m : Minidisk) (place : ℕ) (h : HeldFile) (c : Reading) (records : List (List ℕ)) → IsMinidisk k d m
+pub left_beside : (j k : Journal) (d : Accessed) (m : Minidisk) (place : ℕ) (h : HeldFile) (c : Cursor) (records : List (List ℕ)) → IsMinidisk k d m
     → WritesAside (Some j) (Some k) d.volume.disk d.volume.unit m → slice_get d.volume.files place ≡ Some h → c.leaves ≡ h.tree.leaves
     → HasLeft (now k d.volume.unit) c records ↔ HasLeft (now j d.volume.unit) c records
 left_beside j k d m place h c records is aside at leaves =

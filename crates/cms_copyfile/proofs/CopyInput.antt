@@ -27,7 +27,7 @@ use Rattle.cms_disk.specs.Cursors.{HasLeft}
 use Rattle.cms_disk.specs.Drafts.{WritesAside}
 use Rattle.cms_search.specs.Calls.{Spot, Usable, holds, machine_of}
 use Rattle.cms_search.specs.Searches.{item_at}
-use Rattle.cms_search.specs.Tables.{Accesses, Seated}
+use Rattle.cms_search.specs.Tables.{AccessTable, Seated}
 use Rattle.cms_search.proofs.HandedRecords.{named_so, open_seat}
 use Rattle.cms_search.proofs.LetterDisks.{letter_is, meets_at}
 use Rattle.cms_search.proofs.Stepped.{has_device}
@@ -135,7 +135,7 @@ input_stays old units n s letter name file m h at opened = λ j k start there as
 -- ---- a file that was opened
 
 -- its blocks are there
-pub opened_blocks : (told : Told) (t : Accesses) (n : ℕ) (name : Name) (file : OpenFile) → IsOpened t n name file → Usable told t
+pub opened_blocks : (told : Told) (t : AccessTable) (n : ℕ) (name : Name) (file : OpenFile) → IsOpened t n name file → Usable told t
     → ForSome told (λ j. HasBlocks j.units file.cursor.unit file.cursor.total file.cursor.bsize)
 opened_blocks told t n name file opened usable =
     let unit = has_device (slice_get t.units opened.seat.letter.unit) file.vdev opened.device in

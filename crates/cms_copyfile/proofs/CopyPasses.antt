@@ -10,7 +10,7 @@ use Rattle.cms_journal.specs.Journal.{Journal}
 use Rattle.cms_journal.specs.Told.{Grown, Told}
 use Rattle.cms_journal.proofs.Pieces.{plus-none, plus-some}
 use Rattle.cms_fields.specs.declared.time.Stamp.{Stamp}
-use Rattle.cms_edf.specs.FileDrafts.{FileDraft}
+use Rattle.cms_edf.specs.FileDrafts.{Draft}
 use Rattle.cms_edf.specs.OpeningSteps.{OfImage}
 use Rattle.cms_model.specs.Changes.{Change}
 use Rattle.cms_model.specs.LawsUpdates.{now}
@@ -20,8 +20,8 @@ use Rattle.cms_model.specs.Trees.{Image}
 use Rattle.cms_model.specs.Volumes.{Disk}
 use Rattle.cms_model.proofs.Members.{agree_back}
 use Rattle.cms_held.specs.Drafts.{Front}
-use Rattle.cms_draft.specs.Drafting.{Drafts}
-use Rattle.cms_disk.specs.Cursors.{HandsOut, HasLeft, Reading, SameFile, text_of}
+use Rattle.cms_draft.specs.FileWriters.{Drafts}
+use Rattle.cms_disk.specs.Cursors.{HandsOut, HasLeft, Cursor, SameFile, text_of}
 use Rattle.cms_disk.specs.Disks.{Accessed}
 use Rattle.cms_disk.specs.Drafts.{GoesOn, IsGivenUp, WritesAside}
 use Rattle.cms_disk.specs.declared.fault.DiskFault.TheVariants as failed
@@ -66,13 +66,13 @@ copied_from plan text rest place wanted high =
 
 -- ---- a record is put
 
-pub record GoesWith (start now : Told) (d : Accessed) (m : Minidisk) (draft : FileDraft) (change : Change) (stamp : Stamp) (plan : CopyPlan) (front rest : List (List ℕ)) (text : List ℕ) (place : ℕ) : Type 0 where
+pub record GoesWith (start now : Told) (d : Accessed) (m : Minidisk) (draft : Draft) (change : Change) (stamp : Stamp) (plan : CopyPlan) (front rest : List (List ℕ)) (text : List ℕ) (place : ℕ) : Type 0 where
   pub long : length front ≡ place
   pub wanted : place < plan.wanted
   pub goes : GoesOn start now d m draft change stamp (copies_to plan front) (copies_from plan place (text ∷ rest))
 
 -- none of it, where it isn't copied
-pub passed_by : (start now : Told) (d : Accessed) (m : Minidisk) (draft : FileDraft) (change : Change) (stamp : Stamp) (plan : CopyPlan) (front rest : List (List ℕ)) (text : List ℕ) (place : ℕ)
+pub passed_by : (start now : Told) (d : Accessed) (m : Minidisk) (draft : Draft) (change : Change) (stamp : Stamp) (plan : CopyPlan) (front rest : List (List ℕ)) (text : List ℕ) (place : ℕ)
     → GoesWith start now d m draft change stamp plan front rest text place → place < plan.skipped
     → GoesOn start now d m draft change stamp (copies_to plan (front ++ text ∷ [])) (copies_from plan (place + 1) rest)
 passed_by start now d m draft change stamp plan front rest text place g less =
@@ -80,21 +80,21 @@ passed_by start now d m draft change stamp plan front rest text place g less =
     (subst (GoesOn start now d m draft change stamp (copies_to plan front)) (front_from plan text rest place g.wanted less) g.goes)
 
 -- before its copy is put
-pub copy_next : (start now : Told) (d : Accessed) (m : Minidisk) (draft : FileDraft) (change : Change) (stamp : Stamp) (plan : CopyPlan) (front rest : List (List ℕ)) (text : List ℕ) (place : ℕ)
+pub copy_next : (start now : Told) (d : Accessed) (m : Minidisk) (draft : Draft) (change : Change) (stamp : Stamp) (plan : CopyPlan) (front rest : List (List ℕ)) (text : List ℕ) (place : ℕ)
     → GoesWith start now d m draft change stamp plan front rest text place → plan.skipped ≤ place
     → GoesOn start now d m draft change stamp (copies_to plan front) (copied plan.style text ∷ copies_from plan (place + 1) rest)
 copy_next start now d m draft change stamp plan front rest text place g high =
     subst (GoesOn start now d m draft change stamp (copies_to plan front)) (copied_from plan text rest place g.wanted high) g.goes
 
 -- and behind it
-pub copy_put : (start now : Told) (d : Accessed) (m : Minidisk) (draft : FileDraft) (change : Change) (stamp : Stamp) (plan : CopyPlan) (front rest : List (List ℕ)) (text : List ℕ) (place : ℕ) → length front ≡ place
+pub copy_put : (start now : Told) (d : Accessed) (m : Minidisk) (draft : Draft) (change : Change) (stamp : Stamp) (plan : CopyPlan) (front rest : List (List ℕ)) (text : List ℕ) (place : ℕ) → length front ≡ place
     → plan.skipped ≤ place → GoesOn start now d m draft change stamp (copies_to plan front ++ copied plan.style text ∷ []) (copies_from plan (place + 1) rest)
     → GoesOn start now d m draft change stamp (copies_to plan (front ++ text ∷ [])) (copies_from plan (place + 1) rest)
 copy_put start now d m draft change stamp plan front rest text place long high goes =
     subst (λ (l : List (List ℕ)). GoesOn start now d m draft change stamp l (copies_from plan (place + 1) rest)) (sym (copied_to plan front text place long high)) goes
 
 -- with the text that was put, which is the copy
-module _ (start old : Told) (d : Accessed) (m : Minidisk) (draft : FileDraft) (change : Change) (stamp : Stamp) (plan : CopyPlan) (front rest : List (List ℕ)) (text t : List ℕ) (place : ℕ)
+module _ (start old : Told) (d : Accessed) (m : Minidisk) (draft : Draft) (change : Change) (stamp : Stamp) (plan : CopyPlan) (front rest : List (List ℕ)) (text t : List ℕ) (place : ℕ)
     (is : t ≡ copied plan.style text)
     (g : GoesWith start old d m draft change stamp plan front rest text place) (high : plan.skipped ≤ place) where
   before_it : GoesOn start old d m draft change stamp (copies_to plan front) (t ∷ copies_from plan (place + 1) rest)
@@ -102,7 +102,7 @@ module _ (start old : Told) (d : Accessed) (m : Minidisk) (draft : FileDraft) (c
       subst (λ (c : List ℕ). GoesOn start old d m draft change stamp (copies_to plan front) (c ∷ copies_from plan (place + 1) rest)) (sym is)
       (copy_next start old d m draft change stamp plan front rest text place g high)
 
-  pub put_there : (new : Told) (draft' : FileDraft) → (GoesOn start old d m draft change stamp (copies_to plan front) (t ∷ copies_from plan (place + 1) rest)
+  pub put_there : (new : Told) (draft' : Draft) → (GoesOn start old d m draft change stamp (copies_to plan front) (t ∷ copies_from plan (place + 1) rest)
       → GoesOn start new d m draft' change stamp (copies_to plan front ++ t ∷ []) (copies_from plan (place + 1) rest))
       → GoesOn start new d m draft' change stamp (copies_to plan (front ++ text ∷ [])) (copies_from plan (place + 1) rest)
   put_there new draft' puts =
@@ -118,7 +118,7 @@ module _ (start old : Told) (d : Accessed) (m : Minidisk) (draft : FileDraft) (c
 
 -- ---- how far the pass has come
 
-pub copied_first : (start now : Told) (d : Accessed) (m : Minidisk) (draft : FileDraft) (change : Change) (stamp : Stamp) (plan : CopyPlan) (c : Reading) (records : List (List ℕ))
+pub copied_first : (start now : Told) (d : Accessed) (m : Minidisk) (draft : Draft) (change : Change) (stamp : Stamp) (plan : CopyPlan) (c : Cursor) (records : List (List ℕ))
     → CopiesFrom start now d m draft change stamp plan c records → CopiedTo start now d m draft change stamp plan c c records 0
 copied_first start now d m draft change stamp plan c records from =
     let none : copies_to plan [] ≡ [] = ap (map (copied plan.style)) (drop-nil plan.skipped) in
@@ -147,12 +147,12 @@ start_told : (start now' : Told) (disk : Disk) (u : ℕ) (m : Minidisk) (k : Jou
 start_told (Some j) now' disk u m k told aside = (j, refl)
 start_told None now' disk u m k told aside = let e : None ≡ Some k = sym (plus-none aside.events) ∙ (sym aside.told ∙ told) in absurd (cc e)
 
-hands_there : (before later : Image) (c : Reading) (records : List (List ℕ)) (there : Bool) → Agree c.leaves before later → HandsOut before c records (Ok there) → HandsOut later c records (Ok there)
+hands_there : (before later : Image) (c : Cursor) (records : List (List ℕ)) (there : Bool) → Agree c.leaves before later → HandsOut before c records (Ok there) → HandsOut later c records (Ok there)
 hands_there before later c records true agree out = (out.0, out.1, left_there before later c out.0 agree out.2)
 hands_there before later c records false agree out = (out.0, left_there before later c records agree out.1)
 
 -- a file's blocks are as they were at the start
-agree_then : (start now' : Told) (d : Accessed) (m : Minidisk) (draft : FileDraft) (change : Change) (stamp : Stamp) (done more : List (List ℕ)) (first : Reading) → StayBeside start d m first.unit first.leaves
+agree_then : (start now' : Told) (d : Accessed) (m : Minidisk) (draft : Draft) (change : Change) (stamp : Stamp) (done more : List (List ℕ)) (first : Cursor) → StayBeside start d m first.unit first.leaves
     → (goes : GoesOn start now' d m draft change stamp done more) → AtStart start (λ j. Agree first.leaves (now goes.stands.at first.unit) (now j first.unit))
 agree_then start now' d m draft change stamp done more first stay goes =
     let k = goes.stands.at in
@@ -162,7 +162,7 @@ agree_then start now' d m draft change stamp done more first stay goes =
     record { journal = begun.0; told = begun.1; holds = stay begun.0 k begun.1 goes.stands.minidisk aside }
 
 -- what was left at the start is left now
-left_now : (start now' : Told) (d : Accessed) (m : Minidisk) (draft : FileDraft) (change : Change) (stamp : Stamp) (done more : List (List ℕ)) (first c : Reading) (rest : List (List ℕ))
+left_now : (start now' : Told) (d : Accessed) (m : Minidisk) (draft : Draft) (change : Change) (stamp : Stamp) (done more : List (List ℕ)) (first c : Cursor) (rest : List (List ℕ))
     → StayBeside start d m first.unit first.leaves → (goes : GoesOn start now' d m draft change stamp done more) → SameFile first c
     → OfImage start first.unit (λ image. HasLeft image c rest) → HasLeft (now goes.stands.at first.unit) c rest
 left_now start now' d m draft change stamp done more first c rest stay goes same left =
@@ -174,7 +174,7 @@ left_now start now' d m draft change stamp done more first c rest stay goes same
     left_there (now j u) (now k u) c rest back (left j then'.told)
 
 -- what is handed out beside the draft was left at the start
-hands_beside : (start now' : Told) (d : Accessed) (m : Minidisk) (draft : FileDraft) (change : Change) (stamp : Stamp) (done more : List (List ℕ)) (first c next : Reading) (rest : List (List ℕ)) (there : Bool)
+hands_beside : (start now' : Told) (d : Accessed) (m : Minidisk) (draft : Draft) (change : Change) (stamp : Stamp) (done more : List (List ℕ)) (first c next : Cursor) (rest : List (List ℕ)) (there : Bool)
     → StayBeside start d m first.unit first.leaves → GoesOn start now' d m draft change stamp done more → SameFile first c → SameFile first next → Hands now' first.unit c next there
     → OfImage start first.unit (λ image. HasLeft image c rest) → AtStart start (λ j. HandsOut (now j first.unit) next rest (Ok there))
 hands_beside start now' d m draft change stamp done more first c next rest there stay goes same later hands left =
@@ -190,7 +190,7 @@ hands_beside start now' d m draft change stamp done more first c next rest there
     }
 
 -- they are the file's records
-pub never_altered : (start now' : Told) (d : Accessed) (m : Minidisk) (draft : FileDraft) (change : Change) (stamp : Stamp) (done more : List (List ℕ)) (first c next : Reading) (rest : List (List ℕ))
+pub never_altered : (start now' : Told) (d : Accessed) (m : Minidisk) (draft : Draft) (change : Change) (stamp : Stamp) (done more : List (List ℕ)) (first c next : Cursor) (rest : List (List ℕ))
     → StayBeside start d m first.unit first.leaves → GoesOn start now' d m draft change stamp done more → SameFile first c
     → OfImage now' first.unit (λ image. (all : List (List ℕ)) → HasLeft image c all → HandsOut image next all (Err failed.Altered))
     → OfImage start first.unit (λ image. HasLeft image c rest) → ⊥
@@ -198,13 +198,13 @@ never_altered start now' d m draft change stamp done more first c next rest stay
     let here = left_now start now' d m draft change stamp done more first c rest stay goes same left in
     hands goes.stands.at goes.stands.told_is rest here
 
-only_told : (start : Told) (u : ℕ) (j : Journal) (c : Reading) (records : List (List ℕ)) → start ≡ Some j → HasLeft (now j u) c records → OfImage start u (λ image. HasLeft image c records)
+only_told : (start : Told) (u : ℕ) (j : Journal) (c : Cursor) (records : List (List ℕ)) → start ≡ Some j → HasLeft (now j u) c records → OfImage start u (λ image. HasLeft image c records)
 only_told start u j c records is left k told =
     let same : j ≡ k = same_Some j k (sym is ∙ told) in
     subst (λ (x : Journal). HasLeft (now x u) c records) same left
 
 -- the next record was read
-pub last_read : (start now' : Told) (d : Accessed) (m : Minidisk) (draft : FileDraft) (change : Change) (stamp : Stamp) (plan : CopyPlan) (first c next : Reading) (records : List (List ℕ)) (place : ℕ)
+pub last_read : (start now' : Told) (d : Accessed) (m : Minidisk) (draft : Draft) (change : Change) (stamp : Stamp) (plan : CopyPlan) (first c next : Cursor) (records : List (List ℕ)) (place : ℕ)
     → StayBeside start d m first.unit first.leaves → CopiedTo start now' d m draft change stamp plan first c records place → SameFile first c → SameFile first next → Hands now' first.unit c next true
     → next.begun.whole ≡ true → HasLast start first.unit next records
 last_read start now' d m draft change stamp plan first c next records place stay to same later hands whole =
@@ -219,7 +219,7 @@ last_read start now' d m draft change stamp plan first c next records place stay
     }
 
 -- a read failed, and left the same records to read
-pub read_fails : (start now' : Told) (d : Accessed) (m : Minidisk) (draft : FileDraft) (change : Change) (stamp : Stamp) (plan : CopyPlan) (first c next : Reading) (records : List (List ℕ)) (place : ℕ)
+pub read_fails : (start now' : Told) (d : Accessed) (m : Minidisk) (draft : Draft) (change : Change) (stamp : Stamp) (plan : CopyPlan) (first c next : Cursor) (records : List (List ℕ)) (place : ℕ)
     → StayBeside start d m first.unit first.leaves → CopiedTo start now' d m draft change stamp plan first c records place → SameFile first c → SameFile first next
     → OfImage now' first.unit (λ image. (all : List (List ℕ)) → HasLeft image c all → HandsOut image next all (Err failed.Device))
     → CopiedTo start now' d m draft change stamp plan first next records place
@@ -242,7 +242,7 @@ read_fails start now' d m draft change stamp plan first c next records place sta
     }
 
 -- the draft's device failed, or the records aren't those that were measured
-pub put_fails_on : (start now' : Told) (d : Accessed) (m : Minidisk) (draft : FileDraft) (change : Change) (stamp : Stamp) (plan : CopyPlan) (first c : Reading) (records : List (List ℕ)) (e : CopyFault)
+pub put_fails_on : (start now' : Told) (d : Accessed) (m : Minidisk) (draft : Draft) (change : Change) (stamp : Stamp) (plan : CopyPlan) (first c : Cursor) (records : List (List ℕ)) (e : CopyFault)
     → (e ≡ why.Write) ⊎ (e ≡ why.Altered) → ReadsWell start first c records → FailsOn start now' d m draft change stamp plan first c records (Err e)
 put_fails_on start now' d m draft change stamp plan first c records e (inl is) well =
     subst (λ (x : CopyFault). FailsOn start now' d m draft change stamp plan first c records (Err x)) (sym is) well
@@ -252,7 +252,7 @@ put_fails_on start now' d m draft change stamp plan first c records e (inr is) w
 -- ---- one record more
 
 -- it was read, and its copy was put, or not
-pub record NextPut (start new : Told) (d : Accessed) (m : Minidisk) (draft : FileDraft) (change : Change) (stamp : Stamp) (plan : CopyPlan) (first next : Reading) (records : List (List ℕ)) (place : ℕ)
+pub record NextPut (start new : Told) (d : Accessed) (m : Minidisk) (draft : Draft) (change : Change) (stamp : Stamp) (plan : CopyPlan) (first next : Cursor) (records : List (List ℕ)) (place : ℕ)
     (result : Result ⊤ CopyFault) : Type 0 where
   pub front : List (List ℕ)
   pub rest : List (List ℕ)
@@ -262,13 +262,13 @@ pub record NextPut (start new : Told) (d : Accessed) (m : Minidisk) (draft : Fil
   pub left : OfImage start first.unit (λ image. HasLeft image next rest)
 
 -- what putting it says
-abbrev pub PutsNth : Told → Told → Accessed → Minidisk → FileDraft → FileDraft → Change → Stamp → CopyPlan → ℕ → List ℕ → Result ⊤ CopyFault → Type 0
+abbrev pub PutsNth : Told → Told → Accessed → Minidisk → Draft → Draft → Change → Stamp → CopyPlan → ℕ → List ℕ → Result ⊤ CopyFault → Type 0
 PutsNth mid new d m draft draft' change stamp plan place text result =
     (start : Told) (front rest : List (List ℕ)) → length front ≡ place → place < plan.wanted
     → GoesOn start mid d m draft change stamp (copies_to plan front) (copies_from plan place (text ∷ rest))
     → PutsCopies start new d m draft' change stamp (copies_to plan (front ++ text ∷ [])) (copies_from plan (place + 1) rest) result
 
-pub next_put : (start mid new : Told) (d : Accessed) (m : Minidisk) (draft draft' : FileDraft) (change : Change) (stamp : Stamp) (plan : CopyPlan) (first c next : Reading) (records : List (List ℕ)) (place : ℕ)
+pub next_put : (start mid new : Told) (d : Accessed) (m : Minidisk) (draft draft' : Draft) (change : Change) (stamp : Stamp) (plan : CopyPlan) (first c next : Cursor) (records : List (List ℕ)) (place : ℕ)
     (text : List ℕ)
     (result : Result ⊤ CopyFault) → StayBeside start d m first.unit first.leaves → CopiedTo start mid d m draft change stamp plan first c records place → SameFile first c → SameFile first next
     → place < plan.wanted → Hands mid first.unit c next true → text ≡ text_of next → PutsNth mid new d m draft draft' change stamp plan place text result
@@ -290,7 +290,7 @@ next_put start mid new d m draft draft' change stamp plan first c next records p
       left = only_told start first.unit out.journal next more out.told handed.2;
     }
 
-pub copied_next : (start new : Told) (d : Accessed) (m : Minidisk) (draft draft' : FileDraft) (change : Change) (stamp : Stamp) (plan : CopyPlan) (first next : Reading) (records : List (List ℕ)) (place : ℕ) (x : ⊤)
+pub copied_next : (start new : Told) (d : Accessed) (m : Minidisk) (draft draft' : Draft) (change : Change) (stamp : Stamp) (plan : CopyPlan) (first next : Cursor) (records : List (List ℕ)) (place : ℕ) (x : ⊤)
     → NextPut start new d m draft' change stamp plan first next records place (Ok x)
     → CopiedTo start new d m draft' change stamp plan first next records (place + 1)
 copied_next start new d m draft draft' change stamp plan first next records place x one = record {
@@ -303,13 +303,13 @@ copied_next start new d m draft draft' change stamp plan first next records plac
 }
 
 -- where it fails, it doesn't matter how far it had come
-pub fails_so : (start now' : Told) (d : Accessed) (m : Minidisk) (draft : FileDraft) (change : Change) (stamp : Stamp) (done more done' more' : List (List ℕ)) (e : CopyFault) → PutsCopies start now' d m draft change stamp done more (Err e)
+pub fails_so : (start now' : Told) (d : Accessed) (m : Minidisk) (draft : Draft) (change : Change) (stamp : Stamp) (done more done' more' : List (List ℕ)) (e : CopyFault) → PutsCopies start now' d m draft change stamp done more (Err e)
     → PutsCopies start now' d m draft change stamp done' more' (Err e)
 fails_so start now' d m draft change stamp done more done' more' why.Read is = is
 fails_so start now' d m draft change stamp done more done' more' why.Write is = is
 fails_so start now' d m draft change stamp done more done' more' why.Altered is = is
 
-pub nth_fails : (start mid new : Told) (d : Accessed) (m : Minidisk) (draft draft' : FileDraft) (change : Change) (stamp : Stamp) (plan : CopyPlan) (first c next : Reading) (records : List (List ℕ)) (place : ℕ)
+pub nth_fails : (start mid new : Told) (d : Accessed) (m : Minidisk) (draft draft' : Draft) (change : Change) (stamp : Stamp) (plan : CopyPlan) (first c next : Cursor) (records : List (List ℕ)) (place : ℕ)
     (text : List ℕ)
     (e : CopyFault) → StayBeside start d m first.unit first.leaves → CopiedTo start mid d m draft change stamp plan first c records place → SameFile first c → SameFile first next → place < plan.wanted
     → Hands mid first.unit c next true → text ≡ text_of next → PutsNth mid new d m draft draft' change stamp plan place text (Err e)
@@ -325,7 +325,7 @@ nothing_from plan place rest none =
     ap (λ (l : List (List ℕ)). map (copied plan.style) (drop (plan.skipped - place) l)) none
     ∙ ap (λ (l : List (List ℕ)). map (copied plan.style) l) (drop-nil (plan.skipped - place))
 
-ended : (start now' : Told) (d : Accessed) (m : Minidisk) (draft : FileDraft) (change : Change) (stamp : Stamp) (plan : CopyPlan) (front rest records : List (List ℕ)) (place : ℕ)
+ended : (start now' : Told) (d : Accessed) (m : Minidisk) (draft : Draft) (change : Change) (stamp : Stamp) (plan : CopyPlan) (front rest records : List (List ℕ)) (place : ℕ)
     → GoesOn start now' d m draft change stamp (copies_to plan front) (copies_from plan place rest) → take plan.wanted records ≡ front → take (plan.wanted - place) rest ≡ []
     → GoesOn start now' d m draft change stamp (copies_in plan records) []
 ended start now' d m draft change stamp plan front rest records place goes taken none =
@@ -333,7 +333,7 @@ ended start now' d m draft change stamp plan front rest records place goes taken
     (subst (GoesOn start now' d m draft change stamp (copies_to plan front)) (nothing_from plan place rest none) goes)
 
 -- all that are wanted were read
-pub copied_wanted : (start now' : Told) (d : Accessed) (m : Minidisk) (draft : FileDraft) (change : Change) (stamp : Stamp) (plan : CopyPlan) (first c : Reading) (records : List (List ℕ)) (place : ℕ)
+pub copied_wanted : (start now' : Told) (d : Accessed) (m : Minidisk) (draft : Draft) (change : Change) (stamp : Stamp) (plan : CopyPlan) (first c : Cursor) (records : List (List ℕ)) (place : ℕ)
     → CopiedTo start now' d m draft change stamp plan first c records place → place ≡ plan.wanted → GoesOn start now' d m draft change stamp (copies_in plan records) []
 copied_wanted start now' d m draft change stamp plan first c records place to is =
     let none : plan.wanted - place ≡ 0 = omega arith in
@@ -342,7 +342,7 @@ copied_wanted start now' d m draft change stamp plan first c records place to is
     ended start now' d m draft change stamp plan to.front to.rest records place to.goes front (ap (λ (n : ℕ). take n to.rest) none)
 
 -- there is none more
-pub copied_all : (start now' : Told) (d : Accessed) (m : Minidisk) (draft : FileDraft) (change : Change) (stamp : Stamp) (plan : CopyPlan) (first c next : Reading) (records : List (List ℕ)) (place : ℕ)
+pub copied_all : (start now' : Told) (d : Accessed) (m : Minidisk) (draft : Draft) (change : Change) (stamp : Stamp) (plan : CopyPlan) (first c next : Cursor) (records : List (List ℕ)) (place : ℕ)
     → StayBeside start d m first.unit first.leaves → CopiedTo start now' d m draft change stamp plan first c records place → SameFile first c → SameFile first next → place ≤ plan.wanted
     → Hands now' first.unit c next false → GoesOn start now' d m draft change stamp (copies_in plan records) []
 copied_all start now' d m draft change stamp plan first c next records place stay to same later low hands =
@@ -356,7 +356,7 @@ copied_all start now' d m draft change stamp plan first c next records place sta
     (ap (take (plan.wanted - place)) none ∙ take-nil (plan.wanted - place))
 
 -- a read failed
-pub given_up : (start now' : Told) (d : Accessed) (m : Minidisk) (draft : FileDraft) (change : Change) (stamp : Stamp) (done more : List (List ℕ)) → GoesOn start now' d m draft change stamp done more → IsGivenUp start now' d m change
+pub given_up : (start now' : Told) (d : Accessed) (m : Minidisk) (draft : Draft) (change : Change) (stamp : Stamp) (done more : List (List ℕ)) → GoesOn start now' d m draft change stamp done more → IsGivenUp start now' d m change
 given_up start now' d m draft change stamp done more goes = record { stands = goes.stands; aside = goes.aside; few = goes.few }
 
 -- ---- the units of a journal that has grown

@@ -14,7 +14,7 @@ use Rattle.cms_search.specs.DeviceSteps.{Stepped}
 use Rattle.cms_search.specs.Machine.{Letter, Machine, letter_at, minidisk_in}
 use Rattle.cms_search.specs.Searches.{Shelf, Shelves, item_at, shelves_in}
 use Rattle.cms_search.specs.Shows.{Shows}
-use Rattle.cms_search.specs.Tables.{Accesses, letters_of, shelf_of, writing}
+use Rattle.cms_search.specs.Tables.{AccessTable, letters_of, shelf_of, writing}
 use Rattle.cms_search.specs.declared.fault.SearchFault.{SearchFault}
 use Rattle.cms_search.specs.declared.fault.SearchFault.TheVariants.{NotFound}
 use Rattle.cms_search.specs.declared.state.End.{End}
@@ -47,7 +47,7 @@ told_there (Err why) (Some info) is = absurd is
 told_there (Err why) None is = tt
 
 -- so is the file of the output's name
-there_told : (t : Accesses) (s : Machine) (n : ℕ) (name : Name) → Shows t s → IsInfoOf (info_named t n name) (there_is (file_on s name (letter_at s n)))
+there_told : (t : AccessTable) (s : Machine) (n : ℕ) (name : Name) → Shows t s → IsInfoOf (info_named t n name) (there_is (file_on s name (letter_at s n)))
 there_told t s n name shows = told_there (file_on s name (letter_at s n)) (info_named t n name) (file_told t s n name shows)
 
 -- a file of which this is told is there
@@ -55,7 +55,7 @@ told_found : (x : Result UnitFile SearchFault) (info : FileInfo) → IsTold x (S
 told_found (Ok y) info is = (y, refl, is)
 told_found (Err why) info is = absurd is
 
-pub copying_shown : (t : Accesses) (s : Machine) (line : CopyLine) (c : FileCopy) → IsFileCopy t line c → Shows t s → IsCopying s line c
+pub copying_shown : (t : AccessTable) (s : Machine) (line : CopyLine) (c : FileCopy) → IsFileCopy t line c → Shows t s → IsCopying s line c
 copying_shown t s line c is shows =
     let told : IsTold (file_at s c.found) (Some c.input) = subst (IsTold (file_at s c.found)) (sym is.input) (file_told t s c.found.letter c.found.name shows) in
     let x = told_found (file_at s c.found) c.input told in
@@ -88,7 +88,7 @@ none_on : (s : Machine) (name : Name) (x : Option Letter) → IsTold (file_on s 
 none_on s name None told = refl
 none_on s name (Some disk) told = none_of disk.unit name (minidisk_in (slice_get s.units disk.unit)) told
 
-pub copy_missing : (t : Accesses) (s : Machine) (file : NamedFile) → None ≡ info_named t file.letter file.name → Shows t s → file_at s file ≡ Err NotFound
+pub copy_missing : (t : AccessTable) (s : Machine) (file : NamedFile) → None ≡ info_named t file.letter file.name → Shows t s → file_at s file ≡ Err NotFound
 copy_missing t s file none shows =
     none_on s file.name (letter_at s file.letter) (subst (IsTold (file_at s file)) (sym none) (file_told t s file.letter file.name shows))
 
@@ -197,12 +197,12 @@ told_so s words line c x text is =
 
 -- ---- the output's disk
 
-shelf_shown : (t : Accesses) (s : Machine) (n : ℕ) → Shows t s → writing (item_at (letters_of t) n) n ≡ Ok tt → (shelf : Shelf) × (writable (shelves_in s) n ≡ Ok shelf)
+shelf_shown : (t : AccessTable) (s : Machine) (n : ℕ) → Shows t s → writing (item_at (letters_of t) n) n ≡ Ok tt → (shelf : Shelf) × (writable (shelves_in s) n ≡ Ok shelf)
 shelf_shown t s n shows is =
     let seat = written_at t n is in
     (shelf_of seat.0, ap (λ (x : Shelves). writable x n) (sym (shelves_shown t s shows)) ∙ open_shelf t n seat.0 seat.1 is)
 
-pub of_written : (t : Accesses) (s : Machine) (words : List Token) (line : CopyLine) (c : FileCopy) (x : IsCopying s line c) → Shows t s
+pub of_written : (t : AccessTable) (s : Machine) (words : List Token) (line : CopyLine) (c : FileCopy) (x : IsCopying s line c) → Shows t s
     → writing (item_at (letters_of t) c.letter) c.letter ≡ Ok tt → copy_of s words line (copied_to s line c x) ≡ with_copying words line s c.found (copy_told s words line)
 of_written t s words line c x shows is =
     let shelf = shelf_shown t s c.letter shows is in
@@ -210,7 +210,7 @@ of_written t s words line c x shows is =
     ap (λ (r : Result Shelf SearchFault). on_step s words 1 (λ shelf. copy_told s words line (copied_to s line c x)) r) found
     ∙ sym (copying_is words line s c (copy_told s words line) x)
 
-pub of_unwritten : (t : Accesses) (s : Machine) (words : List Token) (line : CopyLine) (c : FileCopy) (x : IsCopying s line c) (e : SearchFault) → Shows t s
+pub of_unwritten : (t : AccessTable) (s : Machine) (words : List Token) (line : CopyLine) (c : FileCopy) (x : IsCopying s line c) (e : SearchFault) → Shows t s
     → writing (item_at (letters_of t) c.letter) c.letter ≡ Err e → copy_of s words line (copied_to s line c x) ≡ stopping (search_refused s words 1 e)
 of_unwritten t s words line c x e shows is =
     let none = ap (λ (x : Shelves). writable x c.letter) (sym (shelves_shown t s shows)) ∙ no_shelf t c.letter e is in

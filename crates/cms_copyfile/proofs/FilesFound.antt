@@ -11,14 +11,14 @@ use Rattle.cms_names.specs.Names.{is_between, is_name_character, is_part, is_pat
 use Rattle.cms_names.specs.Patterns.{fits, one_and_then, some_suffix}
 use Rattle.cms_names.specs.declared.fault.NameFault.TheVariants.{BadChar, Empty, TooLong}
 use Rattle.cms_names.specs.declared.name.Name.{Name}
-use Rattle.cms_edf.specs.Asking.{infos_in}
+use Rattle.cms_edf.specs.FilesTold.{infos_in}
 use Rattle.cms_edf.specs.declared.held.FileInfo.{FileInfo}
 use Rattle.cms_operands.specs.declared.mode.ReadMode.{ReadMode}
 use Rattle.cms_operands.specs.declared.operand.WriteMode.{WriteMode}
 use Rattle.cms_search.specs.Machine.{Letter, Machine}
 use Rattle.cms_search.specs.Searches.{Listed, Shelf, Shelves, fitting, found_among, found_at, found_in, found_on, is_found, item_at, letters_of_mode, may_find, places_from, search, shelves_in}
 use Rattle.cms_search.specs.Shows.{Shows}
-use Rattle.cms_search.specs.Tables.{Accesses, Seated, letters_of, shelf_of, shelves_of, told_of, writing}
+use Rattle.cms_search.specs.Tables.{AccessTable, Seated, letters_of, shelf_of, shelves_of, told_of, writing}
 use Rattle.cms_search.specs.declared.fault.SearchFault.{SearchFault}
 use Rattle.cms_search.specs.declared.fault.SearchFault.TheVariants as why
 use Rattle.cms_search.specs.declared.search.Found.{Found}
@@ -176,7 +176,7 @@ checked x = do
   shelf ← x
   Ok tt
 
-pub output_checked : (t : Accesses) (s : Machine) (mode : WriteMode) (r : Result ⊤ SearchFault) → Shows t s → r ≡ writing (item_at (letters_of t) mode.letter) mode.letter
+pub output_checked : (t : AccessTable) (s : Machine) (mode : WriteMode) (r : Result ⊤ SearchFault) → Shows t s → r ≡ writing (item_at (letters_of t) mode.letter) mode.letter
     → output_is_written (shelves_in s) (Some mode) ≡ r
 output_checked t s mode (Ok tt) shows is =
     let seat = written_at t mode.letter (sym is) in
@@ -187,7 +187,7 @@ output_checked t s mode (Err e) shows is =
 -- ---- a file that was found
 
 -- what the table tells of it
-listed_shown : (t : Accesses) (found : Found) → listed_at (shelves_of t) found ≡ option_map told_of (info_found t found)
+listed_shown : (t : AccessTable) (found : Found) → listed_at (shelves_of t) found ≡ option_map told_of (info_found t found)
 listed_shown t found =
     ap (λ (x : Option Shelf). option_and_then (λ (shelf : Shelf). slice_get shelf.files found.place) x) (item_at_map shelf_of t.seats found.letter) ∙ cases (item_at t.seats found.letter)
   where
@@ -200,10 +200,10 @@ abbrev by_name : Found → Listed → NamedFile
 by_name found f = record { letter = found.letter; name = f.name }
 
 -- its name
-pub found_none : (t : Accesses) (found : Found) → None ≡ info_found t found → None ≡ named_at (shelves_of t) found
+pub found_none : (t : AccessTable) (found : Found) → None ≡ info_found t found → None ≡ named_at (shelves_of t) found
 found_none t found none = ap (λ (x : Option FileInfo). option_map (by_name found) (option_map told_of x)) none ∙ sym (ap (option_map (by_name found)) (listed_shown t found))
 
-pub found_named : (t : Accesses) (found : Found) (info : FileInfo) → Some info ≡ info_found t found → Some (record { letter = found.letter; name = info.name }) ≡ named_at (shelves_of t) found
+pub found_named : (t : AccessTable) (found : Found) (info : FileInfo) → Some info ≡ info_found t found → Some (record { letter = found.letter; name = info.name }) ≡ named_at (shelves_of t) found
 found_named t found info is = ap (λ (x : Option FileInfo). option_map (by_name found) (option_map told_of x)) is ∙ sym (ap (option_map (by_name found)) (listed_shown t found))
 
 -- ---- the files
@@ -223,7 +223,7 @@ searched_so line shelves are =
     (λ name. names_so line.files.names name are.file are.kind) shelves line.files.mode
 
 -- those of the table are the machine's
-pub searched_shown : (t : Accesses) (line : CopyLine) (r : Result (List Found) SearchFault) → AreParts line
+pub searched_shown : (t : AccessTable) (line : CopyLine) (r : Result (List Found) SearchFault) → AreParts line
     → search (shelves_of t) line.files.mode (fitting (pattern_for line.files.names.file) (pattern_for line.files.names.kind)) ≡ r
     → (s : Machine) → Shows t s → searched (shelves_in s) line ≡ r
 searched_shown t line r are is s shows =
@@ -237,7 +237,7 @@ pub not_written : (s : Machine) (line : CopyLine) (found : List Found) (e : Sear
 not_written s line found e is output = rw (is, output) refl
 
 -- by the names of those that were found
-named_shown : (t : Accesses) (s : Machine) (line : CopyLine) (found : List Found) (files : List NamedFile) (x : ⊤) → Shows t s → searched (shelves_in s) line ≡ Ok found
+named_shown : (t : AccessTable) (s : Machine) (line : CopyLine) (found : List Found) (files : List NamedFile) (x : ⊤) → Shows t s → searched (shelves_in s) line ≡ Ok found
     → output_is_written (shelves_in s) line.files.output.mode ≡ Ok x → files ≡ files_named (shelves_of t) found → files_copied s line ≡ some_found files
 named_shown t s line found files x shows is output named =
     let same : files_named (shelves_in s) found ≡ files = ap (λ (y : Shelves). files_named y found) (sym (shelves_shown t s shows)) ∙ sym named in
@@ -252,7 +252,7 @@ pub some_items : (files : List NamedFile) (n : ℕ) → n ≡ length files → (
 some_items [] n long some none = absurd (cc (sym (ap (λ (k : ℕ). k == 0) long) ∙ some))
 some_items (f ∷ files) n long some none = absurd (cc none)
 
-pub none_copied : (t : Accesses) (s : Machine) (line : CopyLine) (found : List Found) (files : List NamedFile) (x : ⊤) → Shows t s → searched (shelves_in s) line ≡ Ok found
+pub none_copied : (t : AccessTable) (s : Machine) (line : CopyLine) (found : List Found) (files : List NamedFile) (x : ⊤) → Shows t s → searched (shelves_in s) line ≡ Ok found
     → output_is_written (shelves_in s) line.files.output.mode ≡ Ok x → files ≡ files_named (shelves_of t) found → files ≡ [] → files_copied s line ≡ Err why.NotFound
 none_copied t s line found files x shows is output named none = named_shown t s line found files x shows is output named ∙ ap (λ (l : List NamedFile). some_found l) none
 
@@ -260,6 +260,6 @@ some_of : (files : List NamedFile) → (files ≡ [] → ⊥) → some_found fil
 some_of [] some = absurd (some refl)
 some_of (f ∷ files) some = refl
 
-pub some_copied : (t : Accesses) (s : Machine) (line : CopyLine) (found : List Found) (files : List NamedFile) (x : ⊤) → Shows t s → searched (shelves_in s) line ≡ Ok found
+pub some_copied : (t : AccessTable) (s : Machine) (line : CopyLine) (found : List Found) (files : List NamedFile) (x : ⊤) → Shows t s → searched (shelves_in s) line ≡ Ok found
     → output_is_written (shelves_in s) line.files.output.mode ≡ Ok x → files ≡ files_named (shelves_of t) found → (files ≡ [] → ⊥) → files_copied s line ≡ Ok files
 some_copied t s line found files x shows is output named some = named_shown t s line found files x shows is output named ∙ some_of files some

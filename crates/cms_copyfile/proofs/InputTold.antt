@@ -16,16 +16,16 @@ use Rattle.cms_model.specs.Trees.{Image, image_of}
 use Rattle.cms_model.specs.declared.fault.VarFault.TheVariants.{Left, PastEnd, Zero}
 use Rattle.cms_model.proofs.Records.{fits_cut}
 use Rattle.cms_model.proofs.Results.{bind_then, ok_same, want_ok}
-use Rattle.cms_held.specs.Opening.{HeldFile}
+use Rattle.cms_held.specs.HeldVolumes.{HeldFile}
 use Rattle.cms_machine.specs.Slots.{Slot}
-use Rattle.cms_records.specs.Pieces.{Begun, next_place}
-use Rattle.cms_edf.specs.Asking.{info_of, infos_in}
+use Rattle.cms_records.specs.Pieces.{RecordState, next_place}
+use Rattle.cms_edf.specs.FilesTold.{info_of, infos_in}
 use Rattle.cms_edf.specs.OpeningSteps.{OfImage}
 use Rattle.cms_edf.specs.declared.held.FileInfo.{FileInfo}
 use Rattle.cms_disk.specs.Cursors.{HoldLeft, fixed_of, first_begun, unread}
 use Rattle.cms_disk.specs.Disks.{place_of}
 use Rattle.cms_search.specs.Calls.{Spot, holds, machine_of}
-use Rattle.cms_search.specs.Tables.{Accesses, Seated}
+use Rattle.cms_search.specs.Tables.{AccessTable, Seated}
 use Rattle.cms_search.proofs.LetterDisks.{holds_shows}
 use Rattle.cms_search.proofs.Released.{get_map}
 use Rattle.cms_files.specs.OpenFiles.{IsOpened}
@@ -71,7 +71,7 @@ left_fit bsize V size left place bytes rs short h = varying_fit bsize left place
 abbrev info_in : Name → Option Seated → Option FileInfo
 info_in name x = option_and_then (λ s. option_and_then (λ place. slice_get (infos_in s.disk.volume) place) (place_of name s.disk.volume)) x
 
-told_is : (t : Accesses) (c : FileCopy) (file : OpenFile) → Some c.input ≡ info_named t c.found.letter c.found.name → (opened : IsOpened t c.found.letter c.found.name file)
+told_is : (t : AccessTable) (c : FileCopy) (file : OpenFile) → Some c.input ≡ info_named t c.found.letter c.found.name → (opened : IsOpened t c.found.letter c.found.name file)
     → c.input ≡ info_of opened.starts.file
 told_is t c file is opened =
     let v = opened.seat.disk.volume in
@@ -83,7 +83,7 @@ told_is t c file is opened =
     same_Some c.input (info_of held) (is ∙ there)
 
 -- as many records are left to read of it as are told
-pub left_told : (t : Accesses) (c : FileCopy) (file : OpenFile) → Some c.input ≡ info_named t c.found.letter c.found.name → IsOpened t c.found.letter c.found.name file
+pub left_told : (t : AccessTable) (c : FileCopy) (file : OpenFile) → Some c.input ≡ info_named t c.found.letter c.found.name → IsOpened t c.found.letter c.found.name file
     → file.cursor.left ≡ c.input.count
 left_told t c file is opened = opened.starts.first.left ∙ sym (ap (λ (i : FileInfo). i.count) (told_is t c file is opened))
 
@@ -99,9 +99,9 @@ input_left spot units line c file is opened short h x j told =
     let rs = x.file.file.records in
     let info = told_is spot.state.table c file is.input opened in
     let begun : r.begun ≡ first_begun c.input.format c.input.length = opened.starts.first.begun ∙ ap (λ (i : FileInfo). first_begun i.format i.length) (sym info) in
-    let high : c.input.length ≤ longest_record = subst (λ (b : Begun). b.longest ≤ longest_record) begun short in
+    let high : c.input.length ≤ longest_record = subst (λ (b : RecordState). b.longest ≤ longest_record) begun short in
     let held : HoldLeft r.bsize (fixed_of c.input.format c.input.length) c.input.length r.left (next_place r.begun) (unread image r) rs =
-    subst (λ (b : Begun). HoldLeft r.bsize b.fixed b.longest r.left (next_place r.begun) (unread image r) rs) begun left.held in
+    subst (λ (b : RecordState). HoldLeft r.bsize b.fixed b.longest r.left (next_place r.begun) (unread image r) rs) begun left.held in
     let fit = left_fit r.bsize c.input.format c.input.length r.left (next_place r.begun) (unread image r) rs high held in
     record {
       machine = machine_of spot.state units;

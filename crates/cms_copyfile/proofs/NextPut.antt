@@ -7,11 +7,11 @@ use Rattle.std.proofs.lemmas.List.Elements.{All-head, All-tail}
 use Rattle.cms_names.specs.declared.name.Format.{Format}
 use Rattle.cms_model.specs.Records.{Fits, stored}
 use Rattle.cms_model.proofs.Records.{stored_append}
-use Rattle.cms_draft.specs.BlockWriting.{came}
+use Rattle.cms_draft.specs.BlockWriters.{came}
 use Rattle.cms_held.specs.Drafts.{Front}
-use Rattle.cms_draft.specs.Drafting.{Drafts}
+use Rattle.cms_draft.specs.FileWriters.{Drafts}
 use Rattle.cms_draft.specs.declared.shape.DraftShape.{DraftShape}
-use Rattle.cms_edf.specs.FileDrafts.{FileDraft}
+use Rattle.cms_edf.specs.FileDrafts.{Draft}
 use Rattle.cms_copyfile.specs.Puts.{ComesNext}
 
 stored_three : (format : Format) (done more : List (List ℕ)) (text : List ℕ)
@@ -25,7 +25,7 @@ each_of : (P : List ℕ → Type 0) (done more : List (List ℕ)) (text : List �
 each_of P [] more text all = All-head P text more all
 each_of P (x ∷ xs) more text all = each_of P xs more text (All-tail P x (xs ++ (text ∷ more)) all)
 
-pub next_comes : (d : FileDraft) (front : Front) (done more : List (List ℕ)) (text : List ℕ) → Drafts d.writer front done (text ∷ more) → ComesNext d text
+pub next_comes : (d : Draft) (front : Front) (done more : List (List ℕ)) (text : List ℕ) → Drafts d.writer front done (text ∷ more) → ComesNext d text
 next_comes d front done more text drafts =
     let put = drafts.put in
     let count = drafts.count in
@@ -45,13 +45,13 @@ next_comes d front done more text drafts =
 not_true : (b : Bool) (P : Type 0) → IsTrue b ↔ P → b ≡ false → P → ⊥
 not_true b P tells is holds = let both : false ≡ true = sym is ∙ tells.1 holds in absurd (cc both)
 
-pub not_fitting : (d : FileDraft) (text : List ℕ) (shape : DraftShape) (b : Bool) → shape ≡ d.writer.shape → IsTrue b ↔ Fits shape.format shape.length text → b ≡ false
+pub not_fitting : (d : Draft) (text : List ℕ) (shape : DraftShape) (b : Bool) → shape ≡ d.writer.shape → IsTrue b ↔ Fits shape.format shape.length text → b ≡ false
     → (front : Front) (done more : List (List ℕ)) → Drafts d.writer front done (text ∷ more) → ⊥
 not_fitting d text shape b same tells is front done more drafts =
     not_true b (Fits shape.format shape.length text) tells is
     (subst (λ (s : DraftShape). Fits s.format s.length text) (sym same) (next_comes d front done more text drafts).fits)
 
-pub no_bytes : (d : FileDraft) (text : List ℕ) (shape : DraftShape) (left : ℕ) (b : Bool) → shape ≡ d.writer.shape → came d.writer.writer + left ≡ d.writer.writer.size
+pub no_bytes : (d : Draft) (text : List ℕ) (shape : DraftShape) (left : ℕ) (b : Bool) → shape ≡ d.writer.shape → came d.writer.writer + left ≡ d.writer.writer.size
     → IsTrue b ↔ (length (stored shape.format (text ∷ [])) ≤ left) → b ≡ false → (front : Front) (done more : List (List ℕ)) → Drafts d.writer front done (text ∷ more) → ⊥
 no_bytes d text shape left b same left_is tells is front done more drafts =
     let room = (next_comes d front done more text drafts).room in

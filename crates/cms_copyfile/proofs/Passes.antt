@@ -11,7 +11,7 @@ use Rattle.cms_names.specs.declared.name.Format.TheVariants.{V}
 use Rattle.cms_model.specs.Records.{Fits}
 use Rattle.cms_model.specs.Trees.{image_of}
 use Rattle.cms_edf.specs.OpeningSteps.{OfImage}
-use Rattle.cms_disk.specs.Cursors.{HandsOut, HasLeft, Reading, text_of}
+use Rattle.cms_disk.specs.Cursors.{HandsOut, HasLeft, Cursor, text_of}
 use Rattle.cms_disk.specs.declared.fault.DiskFault.{DiskFault}
 use Rattle.cms_disk.specs.declared.fault.DiskFault.TheVariants.{Altered}
 use Rattle.cms_copyfile.specs.Measures.{measured}
@@ -42,7 +42,7 @@ fit_below Whole size most low = low
 -- ---- so many records
 
 -- so many of the records that were left at first were read, and their copies are measured
-pub record MeasuredTo (told : Told) (plan : CopyPlan) (first c : Reading) (place : ℕ) (m : Measure) : Type 0 where
+pub record MeasuredTo (told : Told) (plan : CopyPlan) (first c : Cursor) (place : ℕ) (m : Measure) : Type 0 where
   pub front : List (List ℕ)
   pub long : length front ≡ place
   pub each : All (Fits V longest_record) front
@@ -50,7 +50,7 @@ pub record MeasuredTo (told : Told) (plan : CopyPlan) (first c : Reading) (place
   pub left : OfImage told first.unit (λ image. (all : List (List ℕ)) → HasLeft image first all
       → (rest : List (List ℕ)) × (all ≡ front ++ rest) × HasLeft image c rest)
 
-pub measured_first : (told : Told) (plan : CopyPlan) (c : Reading) (m : Measure) → m ≡ measured plan.format [] → MeasuredTo told plan c c 0 m
+pub measured_first : (told : Told) (plan : CopyPlan) (c : Cursor) (m : Measure) → m ≡ measured plan.format [] → MeasuredTo told plan c c 0 m
 measured_first told plan c m is = record {
   front = [];
   long = refl;
@@ -60,10 +60,10 @@ measured_first told plan c m is = record {
 }
 
 -- what the next read hands out
-abbrev pub Hands : Told → ℕ → Reading → Reading → Bool → Type 0
+abbrev pub Hands : Told → ℕ → Cursor → Cursor → Bool → Type 0
 Hands told unit c next more = OfImage told unit (λ image. (all : List (List ℕ)) → HasLeft image c all → HandsOut image next all (Ok more))
 
-pub measured_next : (told : Told) (plan : CopyPlan) (first c next : Reading) (place : ℕ) (m m' : Measure) (text : List ℕ) → MeasuredTo told plan first c place m
+pub measured_next : (told : Told) (plan : CopyPlan) (first c next : Cursor) (place : ℕ) (m m' : Measure) (text : List ℕ) → MeasuredTo told plan first c place m
     → Hands told first.unit c next true → text ≡ text_of next → Fits V longest_record text
     → ((front : List (List ℕ)) → length front ≡ place → m ≡ measured plan.format (map (copied plan.style) (drop plan.skipped front))
     → m' ≡ measured plan.format (map (copied plan.style) (drop plan.skipped (front ++ (text ∷ []))))) → MeasuredTo told plan first next (place + 1) m'
@@ -81,29 +81,29 @@ measured_next told plan first c next place m m' text to hands is_text fits adds 
           (new.0, old.1 ∙ (ap (λ (l : List (List ℕ)). to.front ++ l) (new.1 ∙ ap (λ (t : List ℕ). t ∷ new.0) (sym is_text)) ∙ sym (append_assoc to.front (text ∷ []) new.0)), new.2));
     }
 
-abbrev pub IsMeasured : Told → CopyPlan → Reading → Measure → Type 0
+abbrev pub IsMeasured : Told → CopyPlan → Cursor → Measure → Type 0
 IsMeasured told plan first m = OfImage told first.unit (λ image. (all : List (List ℕ)) → HasLeft image first all → m ≡ measured plan.format (copies_in plan all))
 
 taken : (front rest : List (List ℕ)) (n : ℕ) (all : List (List ℕ)) → all ≡ front ++ rest → length front ≡ n → take n all ≡ front
 taken front rest n all split long = ap (λ (k : ℕ). take k all) (sym long) ∙ (ap (take (length front)) split ∙ take-append_seam front rest)
 
 -- all that are wanted were read
-pub measured_wanted : (told : Told) (plan : CopyPlan) (first c : Reading) (place : ℕ) (m : Measure) → MeasuredTo told plan first c place m → place ≡ plan.wanted → IsMeasured told plan first m
+pub measured_wanted : (told : Told) (plan : CopyPlan) (first c : Cursor) (place : ℕ) (m : Measure) → MeasuredTo told plan first c place m → place ≡ plan.wanted → IsMeasured told plan first m
 measured_wanted told plan first c place m to is j at all has =
     let old = to.left j at all has in
     to.measure ∙ ap (λ (l : List (List ℕ)). measured plan.format (map (copied plan.style) (drop plan.skipped l))) (sym (taken to.front old.0 plan.wanted all old.1 (to.long ∙ is)))
 
 -- each of which is a record
-abbrev pub AreRecords : Told → CopyPlan → Reading → Type 0
+abbrev pub AreRecords : Told → CopyPlan → Cursor → Type 0
 AreRecords told plan first = OfImage told first.unit (λ image. (all : List (List ℕ)) → HasLeft image first all → All (Fits V longest_record) (take plan.wanted all))
 
-pub records_wanted : (told : Told) (plan : CopyPlan) (first c : Reading) (place : ℕ) (m : Measure) → MeasuredTo told plan first c place m → place ≡ plan.wanted → AreRecords told plan first
+pub records_wanted : (told : Told) (plan : CopyPlan) (first c : Cursor) (place : ℕ) (m : Measure) → MeasuredTo told plan first c place m → place ≡ plan.wanted → AreRecords told plan first
 records_wanted told plan first c place m to is j at all has =
     let old = to.left j at all has in
     subst (All (Fits V longest_record)) (sym (taken to.front old.0 plan.wanted all old.1 (to.long ∙ is))) to.each
 
 -- there is none more
-pub measured_all : (told : Told) (plan : CopyPlan) (first c next : Reading) (place : ℕ) (m : Measure) → MeasuredTo told plan first c place m → place ≤ plan.wanted
+pub measured_all : (told : Told) (plan : CopyPlan) (first c next : Cursor) (place : ℕ) (m : Measure) → MeasuredTo told plan first c place m → place ≤ plan.wanted
     → Hands told first.unit c next false → IsMeasured told plan first m
 measured_all told plan first c next place m to low hands j at all has =
     let old = to.left j at all has in
@@ -113,7 +113,7 @@ measured_all told plan first c next place m to low hands j at all has =
     let long' = to.long in
     to.measure ∙ ap (λ (l : List (List ℕ)). measured plan.format (map (copied plan.style) (drop plan.skipped l))) (sym (take_all plan.wanted all (omega arith) ∙ whole))
 
-pub records_all : (told : Told) (plan : CopyPlan) (first c next : Reading) (place : ℕ) (m : Measure) → MeasuredTo told plan first c place m → place ≤ plan.wanted
+pub records_all : (told : Told) (plan : CopyPlan) (first c next : Cursor) (place : ℕ) (m : Measure) → MeasuredTo told plan first c place m → place ≤ plan.wanted
     → Hands told first.unit c next false → AreRecords told plan first
 records_all told plan first c next place m to low hands j at all has =
     let old = to.left j at all has in
@@ -124,7 +124,7 @@ records_all told plan first c next place m to low hands j at all has =
     subst (All (Fits V longest_record)) (sym (take_all plan.wanted all (omega arith) ∙ whole)) to.each
 
 -- records that are left are never found altered
-pub never_altered : (told : Told) (plan : CopyPlan) (first c next : Reading) (place : ℕ) (m : Measure) (e : DiskFault) → MeasuredTo told plan first c place m
+pub never_altered : (told : Told) (plan : CopyPlan) (first c next : Cursor) (place : ℕ) (m : Measure) (e : DiskFault) → MeasuredTo told plan first c place m
     → OfImage told first.unit (λ image. (all : List (List ℕ)) → HasLeft image c all → HandsOut image next all (Err e)) → e ≡ Altered
     → OfImage told first.unit (λ image. (all : List (List ℕ)) → HasLeft image first all → ⊥)
 never_altered told plan first c next place m e to hands is j at all has =

@@ -22,8 +22,8 @@ use Rattle.cms_machine.proofs.Aside.{covers_aside, now_aside}
 use Rattle.cms_machine.proofs.Single.{OwnNow, ran_step_all}
 use Rattle.cms_disk.specs.Disks.{Accessed, IsLookedAt}
 use Rattle.cms_disk.specs.Drafts.{Stands, WritesAside}
-use Rattle.cms_disk.proofs.Leaving.{covers_looked}
-use Rattle.cms_disk.proofs.Standing.{state_stands}
+use Rattle.cms_disk.proofs.CrashStates.{covers_looked}
+use Rattle.cms_disk.proofs.DisksTold.{state_stands}
 use Rattle.cms_search.proofs.Changes.{looked_changed}
 
 -- ---- the piece

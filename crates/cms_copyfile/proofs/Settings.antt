@@ -15,12 +15,12 @@ use Rattle.cms_line.specs.declared.token.Token.{Token}
 use Rattle.cms_operands.specs.Choices.{all_valued, chosen_of, chosen_with, refusal_of, rule_of, setting_in, unless_refused, valued, valued_by}
 use Rattle.cms_operands.specs.Operands.{largest, number_in, number_within, or_refused}
 use Rattle.cms_operands.specs.Refusals.{text_at}
-use Rattle.cms_operands.specs.declared.choosing.ChosenOption.{ChosenOption}
-use Rattle.cms_operands.specs.declared.choosing.OptionForm.{OptionForm}
-use Rattle.cms_operands.specs.declared.choosing.Parameter.{Parameter}
-use Rattle.cms_operands.specs.declared.choosing.Parameter.TheVariants as takes
-use Rattle.cms_operands.specs.declared.choosing.Setting.{Setting}
-use Rattle.cms_operands.specs.declared.choosing.Setting.TheVariants as says
+use Rattle.cms_operands.specs.declared.options.ChosenOption.{ChosenOption}
+use Rattle.cms_operands.specs.declared.options.OptionForm.{OptionForm}
+use Rattle.cms_operands.specs.declared.options.Parameter.{Parameter}
+use Rattle.cms_operands.specs.declared.options.Parameter.TheVariants as takes
+use Rattle.cms_operands.specs.declared.options.Setting.{Setting}
+use Rattle.cms_operands.specs.declared.options.Setting.TheVariants as says
 use Rattle.cms_operands.specs.declared.refusal.Refusal.{Refusal}
 use Rattle.cms_operands.specs.declared.refusal.Refusal.TheVariants.{BadParameter, UnknownOption}
 use Rattle.cms_copyfile.specs.Lines as lines

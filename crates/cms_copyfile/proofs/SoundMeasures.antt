@@ -12,7 +12,7 @@ use Rattle.cms_names.specs.declared.name.Format.TheVariants.{F, V}
 use Rattle.cms_model.specs.Records.{Fits, longest, stored}
 use Rattle.cms_held.specs.Kept.{IsSized}
 use Rattle.cms_operands.specs.Operands.{largest}
-use Rattle.cms_disk.specs.Cursors.{Reading}
+use Rattle.cms_disk.specs.Cursors.{Cursor}
 use Rattle.cms_disk.specs.Disks.{IsFileInfo}
 use Rattle.cms_disk.proofs.FilePut.{sized_at}
 use Rattle.cms_copyfile.specs.Lines.{IsCopyStyle}
@@ -103,7 +103,7 @@ plan_few form count plan p = subst (λ (q : CopyPlan). q.wanted ≤ count) (sym 
 -- ---- copies that were read
 
 -- all that are wanted were read
-pub read_sound : (told : Told) (plan : CopyPlan) (first c : Reading) (place : ℕ) (m : Measure) (form : FileForm) (count : ℕ) → MeasuredTo told plan first c place m → place ≡ plan.wanted
+pub read_sound : (told : Told) (plan : CopyPlan) (first c : Cursor) (place : ℕ) (m : Measure) (form : FileForm) (count : ℕ) → MeasuredTo told plan first c place m → place ≡ plan.wanted
     → IsPlan form count plan → IsMeasure form m
 read_sound told plan first c place m form count to is p =
     let long = to.long in

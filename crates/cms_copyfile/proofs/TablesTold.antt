@@ -6,12 +6,12 @@ use Rattle.cms_names.specs.declared.name.Name.{Name}
 use Rattle.cms_fields.specs.Limits.{longest_record}
 use Rattle.cms_fields.specs.Stamps.{is_stamp}
 use Rattle.cms_fields.specs.declared.time.Stamp.{Stamp}
-use Rattle.cms_held.specs.Opening.{HeldFile, HeldVolume}
-use Rattle.cms_edf.specs.Asking.{info_of, infos_in, stored_in}
+use Rattle.cms_held.specs.HeldVolumes.{HeldFile, HeldVolume}
+use Rattle.cms_edf.specs.FilesTold.{info_of, infos_in, stored_in}
 use Rattle.cms_edf.specs.declared.held.FileInfo.{FileInfo}
 use Rattle.cms_disk.specs.Disks.{IsFileInfo, place_of}
 use Rattle.cms_search.specs.Searches.{item_at}
-use Rattle.cms_search.specs.Tables.{Accesses, Seated}
+use Rattle.cms_search.specs.Tables.{AccessTable, Seated}
 use Rattle.cms_files.specs.Told.{info_named, stored_named}
 use Rattle.cms_copyfile.specs.FileCopies.{form_in}
 use Rattle.cms_operands.specs.declared.operand.WriteMode.{WriteMode}
@@ -40,7 +40,7 @@ stored_on : (x : Option Seated) (name : Name) (own : FileInfo)
 stored_on None name own is = absurd (cc is)
 stored_on (Some s) name own is = stored_in_place s.disk.volume (place_of name s.disk.volume) own is
 
-pub stored_there : (t : Accesses) (n : ℕ) (name : Name) (own : FileInfo) → Some own ≡ info_named t n name → IsSome (stored_named t n name)
+pub stored_there : (t : AccessTable) (n : ℕ) (name : Name) (own : FileInfo) → Some own ≡ info_named t n name → IsSome (stored_named t n name)
 stored_there t n name own is = stored_on (item_at t.seats n) name own (sym is)
 
 -- ---- how long records are, and how many are copied

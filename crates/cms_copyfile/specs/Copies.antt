@@ -3,13 +3,13 @@ use Rattle.std.specs.Prelude.{◌≡◌, ◌⊎◌, ℕ, ◌-◌, true, List, []
 use Rattle.cms_journal.specs.Journal.{Journal}
 use Rattle.cms_journal.specs.Told.{Told}
 use Rattle.cms_fields.specs.declared.time.Stamp.{Stamp}
-use Rattle.cms_edf.specs.FileDrafts.{FileDraft}
+use Rattle.cms_edf.specs.FileDrafts.{Draft}
 use Rattle.cms_edf.specs.OpeningSteps.{OfImage}
 use Rattle.cms_model.specs.Changes.{Change}
 use Rattle.cms_model.specs.LawsUpdates.{now}
 use Rattle.cms_model.specs.Minidisks.{Minidisk}
 use Rattle.cms_model.specs.Settled.{Agree}
-use Rattle.cms_disk.specs.Cursors.{HasLeft, Reading, text_of}
+use Rattle.cms_disk.specs.Cursors.{HasLeft, Cursor, text_of}
 use Rattle.cms_disk.specs.Disks.{Accessed, IsMinidisk}
 use Rattle.cms_disk.specs.Drafts.{GoesOn, IsGivenUp, WritesAside}
 use Rattle.cms_copyfile.specs.Outputs.{copies_in}
@@ -25,8 +25,8 @@ StayBeside start d m unit blocks =
     → Agree blocks (now k unit) (now j unit)
 
 -- a draft goes on of which the copies come next, for this change, and these records are left to read of a file that stays beside it
-pub record CopiesFrom (start now : Told) (d : Accessed) (m : Minidisk) (draft : FileDraft) (change : Change) (stamp : Stamp)
-    (plan : CopyPlan) (c : Reading) (records : List (List ℕ)) :
+pub record CopiesFrom (start now : Told) (d : Accessed) (m : Minidisk) (draft : Draft) (change : Change) (stamp : Stamp)
+    (plan : CopyPlan) (c : Cursor) (records : List (List ℕ)) :
     Type 0 where
   pub goes : GoesOn start now d m draft change stamp [] (copies_in plan records)
   pub stay : StayBeside start d m c.unit c.leaves
@@ -43,8 +43,8 @@ abbrev pub copies_from : CopyPlan → ℕ → List (List ℕ) → List (List ℕ
 copies_from plan place rest = map (copied plan.style) (drop (plan.skipped - place) (take (plan.wanted - place) rest))
 
 -- so many of the records were read, and the copies of those are put; the others are left to read, as they were at the start
-pub record CopiedTo (start now : Told) (d : Accessed) (m : Minidisk) (draft : FileDraft)
-    (change : Change) (stamp : Stamp) (plan : CopyPlan) (first c : Reading)
+pub record CopiedTo (start now : Told) (d : Accessed) (m : Minidisk) (draft : Draft)
+    (change : Change) (stamp : Stamp) (plan : CopyPlan) (first c : Cursor)
     (records : List (List ℕ)) (place : ℕ) :
     Type 0 where
   pub front : List (List ℕ)
@@ -56,7 +56,7 @@ pub record CopiedTo (start now : Told) (d : Accessed) (m : Minidisk) (draft : Fi
   pub left : OfImage start first.unit (λ image. HasLeft image c rest)
 
 -- the record that was read last stands in the cursor, and those behind it are left to read
-pub record HasLast (start : Told) (unit : ℕ) (c : Reading) (records : List (List ℕ)) : Type 0 where
+pub record HasLast (start : Told) (unit : ℕ) (c : Cursor) (records : List (List ℕ)) : Type 0 where
   pub front : List (List ℕ)
   pub rest : List (List ℕ)
   pub split : records ≡ front ++ text_of c ∷ rest
@@ -64,14 +64,14 @@ pub record HasLast (start : Told) (unit : ℕ) (c : Reading) (records : List (Li
   pub left : OfImage start unit (λ image. HasLeft image c rest)
 
 -- no read failed: there was none, or the last one read a record
-abbrev pub ReadsWell : Told → Reading → Reading → List (List ℕ) → Type 0
+abbrev pub ReadsWell : Told → Cursor → Cursor → List (List ℕ) → Type 0
 ReadsWell start first c records = (c ≡ first) ⊎ HasLast start first.unit c records
 
 -- ---- what it comes to
 
 -- on which unit a call failed: at Read the draft still goes on, with the copies of all records that were read; at Write no read failed
-abbrev pub FailsOn : Told → Told → Accessed → Minidisk → FileDraft → Change → Stamp → CopyPlan
-    → Reading → Reading → List (List ℕ) → Result ⊤ CopyFault → Type 0
+abbrev pub FailsOn : Told → Told → Accessed → Minidisk → Draft → Change → Stamp → CopyPlan
+    → Cursor → Cursor → List (List ℕ) → Result ⊤ CopyFault → Type 0
 FailsOn start now d m draft change stamp plan first c records (Ok x) =
     ReadsWell start first c records
 FailsOn start now d m draft change stamp plan first c records (Err why.Read) =
@@ -81,7 +81,7 @@ FailsOn start now d m draft change stamp plan first c records (Err why.Write) =
 FailsOn start now d m draft change stamp plan first c records (Err why.Altered) = ⊤
 
 -- the draft goes on, or it is given up
-abbrev pub PutsCopies : Told → Told → Accessed → Minidisk → FileDraft → Change → Stamp → List (List ℕ) → List (List ℕ)
+abbrev pub PutsCopies : Told → Told → Accessed → Minidisk → Draft → Change → Stamp → List (List ℕ) → List (List ℕ)
     → Result ⊤ CopyFault → Type 0
 PutsCopies start now d m draft change stamp done more (Ok x) = GoesOn start now d m draft change stamp done more
 PutsCopies start now d m draft change stamp done more (Err why.Read) = IsGivenUp start now d m change

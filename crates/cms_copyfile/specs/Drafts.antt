@@ -8,22 +8,22 @@ use Rattle.cms_fields.specs.declared.time.Stamp.{Stamp}
 use Rattle.cms_model.specs.Changes.{Add, Change, Changed, Put, answer_of, changed, file_named}
 use Rattle.cms_model.specs.Minidisks.{File, Minidisk}
 use Rattle.cms_model.specs.Records.{length_of}
-use Rattle.cms_draft.specs.Drafting.{HaveShape}
+use Rattle.cms_draft.specs.FileWriters.{HaveShape}
 use Rattle.cms_draft.specs.declared.shape.DraftShape.{DraftShape}
-use Rattle.cms_held.specs.Opening.{HeldVolume}
+use Rattle.cms_held.specs.HeldVolumes.{HeldVolume}
 use Rattle.cms_world.specs.Seen.{OnlyReads, Seen}
-use Rattle.cms_edf.specs.FileDrafts.{CanDraft, FileDraft}
+use Rattle.cms_edf.specs.FileDrafts.{CanDraft, Draft}
 use Rattle.cms_edf.specs.OpeningSteps.{OfImage}
 use Rattle.cms_disk.specs.Additions.{HaveShapeBehind, MayExtend}
-use Rattle.cms_disk.specs.Changing.{Appends, ChangesDisk}
-use Rattle.cms_disk.specs.Cursors.{HasLeft, Reading}
+use Rattle.cms_disk.specs.Changes.{Appends, ChangesDisk}
+use Rattle.cms_disk.specs.Cursors.{HasLeft, Cursor}
 use Rattle.cms_disk.specs.Disks.{Accessed, IsMinidisk, IsReadable, place_of}
 use Rattle.cms_disk.specs.Drafts.{GoesOn, IsGivenUp, file_with}
 use Rattle.cms_disk.specs.declared.fault.DiskFault.{DiskFault}
 use Rattle.cms_disk.specs.declared.fault.DiskFault.TheVariants as failed
 use Rattle.cms_search.specs.Drafts.{IsPlannedOn}
 use Rattle.cms_search.specs.Seats.{HasDisk}
-use Rattle.cms_search.specs.Tables.{Accesses, Seated}
+use Rattle.cms_search.specs.Tables.{AccessTable, Seated}
 use Rattle.cms_copyfile.specs.Copies.{CopiedTo, CopiesFrom, ReadsWell, StayBeside}
 use Rattle.cms_copyfile.specs.Outputs.{copies_in}
 use Rattle.cms_copyfile.specs.declared.output.CopyPlan.{CopyPlan}
@@ -69,18 +69,18 @@ CameTo old new d e m change stamp Altered = ⊥
 
 -- a draft for the change goes on, on a disk of the same volume
 pub record StillGoes (start now : Told) (d : Accessed) (m : Minidisk) (change : Change)
-    (stamp : Stamp) (plan : CopyPlan) (first c : Reading) (records : List (List ℕ)) :
+    (stamp : Stamp) (plan : CopyPlan) (first c : Cursor) (records : List (List ℕ)) :
     Type 0 where
   pub disk : Accessed
   pub volume : disk.volume ≡ d.volume
-  pub draft : FileDraft
+  pub draft : Draft
   pub place : ℕ
   pub to : CopiedTo start now disk m draft change stamp plan first c records place
 
 -- on which unit a call failed: at Unread the draft still goes on, with the copies of all records that were read; where the writing came to
 -- an answer no read failed
-abbrev pub WriteFailsOn : Told → Told → Accessed → Minidisk → Change → Stamp → CopyPlan → Reading
-    → Reading → List (List ℕ) → Written → Type 0
+abbrev pub WriteFailsOn : Told → Told → Accessed → Minidisk → Change → Stamp → CopyPlan → Cursor
+    → Cursor → List (List ℕ) → Written → Type 0
 WriteFailsOn start now d m change stamp plan first c records (Came r) =
     ReadsWell start first c records
 WriteFailsOn start now d m change stamp plan first c records Unread =
@@ -110,19 +110,19 @@ pub record IsToHave (told : Told) (d : Accessed) (m : Minidisk) (to : CopyTarget
   pub have : HaveRecords to.write (file_named to.name m.files) to.shape all
 
 -- a draft begins for the change, which isn't refused
-pub record Begins (old new : Told) (d : Accessed) (m : Minidisk) (draft : FileDraft) (change : Change) (stamp : Stamp)
+pub record Begins (old new : Told) (d : Accessed) (m : Minidisk) (draft : Draft) (change : Change) (stamp : Stamp)
     (all : List (List ℕ)) :
     Type 0 where
   pub goes : GoesOn old new d m draft change stamp [] all
   pub answer : answer_of m change ≡ Changed (changed m change)
 
 -- what planning came to, where d is the disk before it and e the disk then: a draft begins, or the change came to that fault
-abbrev pub PlansAs : Told → Told → Accessed → Accessed → Minidisk → Change → Stamp → List (List ℕ) → Result FileDraft DiskFault → Type 0
+abbrev pub PlansAs : Told → Told → Accessed → Accessed → Minidisk → Change → Stamp → List (List ℕ) → Result Draft DiskFault → Type 0
 PlansAs old new d e m change stamp all (Ok draft) = Begins old new e m draft change stamp all
 PlansAs old new d e m change stamp all (Err fault) = Appends old new d e m change stamp (Err fault)
 
 -- what planning it said; the disk has other spare places at most
-pub record PlansTo (before now : Seen) (d e : Accessed) (to : CopyTarget) (result : Result FileDraft DiskFault) : Type 0 where
+pub record PlansTo (before now : Seen) (d e : Accessed) (to : CopyTarget) (result : Result Draft DiskFault) : Type 0 where
   pub planned : IfOk result (IsPlannedOn d e)
   pub plans : (m : Minidisk) (all : List (List ℕ)) → IsToHave before.told d m to all
       → PlansAs before.told now.told d e m (changing to all) to.stamp all result
@@ -131,13 +131,13 @@ pub record PlansTo (before now : Seen) (d e : Accessed) (to : CopyTarget) (resul
   pub reads : OnlyReads before now failed.Device result
 
 -- a draft is made the disk's file
-pub record FinishesTo (before now : Seen) (d e : Accessed) (draft : FileDraft) (written : Written) : Type 0 where
+pub record FinishesTo (before now : Seen) (d e : Accessed) (draft : Draft) (written : Written) : Type 0 where
   pub came : (start : Told) (m : Minidisk) (change : Change) (stamp : Stamp) (all : List (List ℕ))
       → GoesOn start before.told d m draft change stamp all [] → CameTo start now.told d e m change stamp written
   pub changes : ChangesDisk before now d e (answer_in written)
 
 -- the copies are put in a draft, and it is made the disk's file
-pub record FillsTo (before now : Seen) (d e : Accessed) (draft : FileDraft) (plan : CopyPlan) (c : Reading)
+pub record FillsTo (before now : Seen) (d e : Accessed) (draft : Draft) (plan : CopyPlan) (c : Cursor)
     (written : Written) : Type 0 where
   pub came : (start : Told) (m : Minidisk) (change : Change) (stamp : Stamp) (records : List (List ℕ))
       → CopiesFrom start before.told d m draft change stamp plan c records → answer_of m change ≡ Changed (changed m change)
@@ -147,21 +147,21 @@ pub record FillsTo (before now : Seen) (d e : Accessed) (draft : FileDraft) (pla
 -- ---- the file
 
 -- the copies of these records are to be written on the disk, which is this minidisk; they are left to read of a file that stays beside it
-pub record CopiesInto (told : Told) (d : Accessed) (m : Minidisk) (to : CopyTarget) (plan : CopyPlan) (c : Reading)
+pub record CopiesInto (told : Told) (d : Accessed) (m : Minidisk) (to : CopyTarget) (plan : CopyPlan) (c : Cursor)
     (records : List (List ℕ)) : Type 0 where
   pub to_have : IsToHave told d m to (copies_in plan records)
   pub stay : StayBeside told d m c.unit c.leaves
   pub left : OfImage told c.unit (λ image. HasLeft image c records)
 
 -- what writing copies came to, where d is the disk before and e the disk then
-pub record WritesTo (before now : Seen) (d e : Accessed) (to : CopyTarget) (plan : CopyPlan) (c : Reading)
+pub record WritesTo (before now : Seen) (d e : Accessed) (to : CopyTarget) (plan : CopyPlan) (c : Cursor)
     (written : Written) : Type 0 where
   pub came : (m : Minidisk) (records : List (List ℕ)) → CopiesInto before.told d m to plan c records
       → CameTo before.told now.told d e m (changing to (copies_in plan records)) to.stamp written
   pub changes : ChangesDisk before now d e (answer_in written)
 
 -- on which unit a call failed while the copies were put in a draft of the disk, and it was finished
-abbrev pub FillFailsOn : Told → Told → Accessed → FileDraft → CopyPlan → Reading → Reading → Written
+abbrev pub FillFailsOn : Told → Told → Accessed → Draft → CopyPlan → Cursor → Cursor → Written
     → Type 0
 FillFailsOn old new d draft plan first c written =
     (start : Told) (m : Minidisk) (change : Change) (stamp : Stamp) (records : List (List ℕ))
@@ -169,7 +169,7 @@ FillFailsOn old new d draft plan first c written =
     → WriteFailsOn start new d m change stamp plan first c records written
 
 -- the same from the planning of the target's draft on
-abbrev pub CopyFailsOn : Told → Told → Accessed → CopyTarget → CopyPlan → Reading → Reading
+abbrev pub CopyFailsOn : Told → Told → Accessed → CopyTarget → CopyPlan → Cursor → Cursor
     → Written → Type 0
 CopyFailsOn old new d to plan first c written =
     (m : Minidisk) (records : List (List ℕ)) → CopiesInto old d m to plan first records
@@ -179,17 +179,17 @@ CopyFailsOn old new d to plan first c written =
 -- ---- on the disk of letter n, which is that of s
 
 -- what planning on the target's letter came to
-abbrev pub PlansSeat : Seen → Seen → Accesses → Accesses → Seated → CopyTarget → Result FileDraft DiskFault → Type 0
+abbrev pub PlansSeat : Seen → Seen → AccessTable → AccessTable → Seated → CopyTarget → Result Draft DiskFault → Type 0
 PlansSeat before now t t' s to result = HasDisk t t' to.letter (λ e. PlansTo before now s.disk e to result)
 
 -- what making a full draft a file of letter n's disk came to
-abbrev pub FinishesSeat : Seen → Seen → Accesses → Accesses → ℕ → Seated → FileDraft → Written → Type 0
+abbrev pub FinishesSeat : Seen → Seen → AccessTable → AccessTable → ℕ → Seated → Draft → Written → Type 0
 FinishesSeat before now t t' n s draft written = HasDisk t t' n (λ e. FinishesTo before now s.disk e draft written)
 
 -- what putting the copies in a draft on letter n, and finishing it, came to
-abbrev pub FillsSeat : Seen → Seen → Accesses → Accesses → ℕ → Seated → FileDraft → CopyPlan → Reading → Written → Type 0
+abbrev pub FillsSeat : Seen → Seen → AccessTable → AccessTable → ℕ → Seated → Draft → CopyPlan → Cursor → Written → Type 0
 FillsSeat before now t t' n s draft plan c written = HasDisk t t' n (λ e. FillsTo before now s.disk e draft plan c written)
 
 -- the same of the target's letter, from its draft on
-abbrev pub WritesSeat : Seen → Seen → Accesses → Accesses → Seated → CopyTarget → CopyPlan → Reading → Written → Type 0
+abbrev pub WritesSeat : Seen → Seen → AccessTable → AccessTable → Seated → CopyTarget → CopyPlan → Cursor → Written → Type 0
 WritesSeat before now t t' s to plan c written = HasDisk t t' to.letter (λ e. WritesTo before now s.disk e to plan c written)

@@ -7,7 +7,7 @@ use Rattle.cms_edf.specs.declared.held.FileInfo.{FileInfo}
 use Rattle.cms_disk.specs.Disks.{IsFileInfo}
 use Rattle.cms_search.specs.Machine.{Machine}
 use Rattle.cms_search.specs.Searches.{found_at}
-use Rattle.cms_search.specs.Tables.{Accesses}
+use Rattle.cms_search.specs.Tables.{AccessTable}
 use Rattle.cms_search.specs.declared.search.Found.{Found}
 use Rattle.cms_files.specs.Files.{UnitFile}
 use Rattle.cms_files.specs.Told.{IsInfo, info_named, place_named}
@@ -21,7 +21,7 @@ use Rattle.cms_copyfile.specs.declared.output.FileForm.{FileForm}
 -- ---- on the table
 
 -- it is a file of the table's, with what is told of it and of the file that has the output's name, as a file may have it
-pub record IsFileCopy (t : Accesses) (line : CopyLine) (c : FileCopy) : Type 0 where
+pub record IsFileCopy (t : AccessTable) (line : CopyLine) (c : FileCopy) : Type 0 where
   pub place : Some c.place ≡ place_named t c.found.letter c.found.name
   pub input : Some c.input ≡ info_named t c.found.letter c.found.name
   pub letter : c.letter ≡ letter_for line.files.output.mode c.found.letter

@@ -7,11 +7,11 @@ use Rattle.cms_fields.specs.Limits.{longest_record}
 use Rattle.cms_line.specs.declared.token.Token.{Token}
 use Rattle.cms_operands.specs.Choices.{chosen_of, flag, form}
 use Rattle.cms_operands.specs.Operands.{ended, given, largest, needed, operands_of, output_mode, reading_mode}
-use Rattle.cms_operands.specs.declared.choosing.ChosenOption.{ChosenOption}
-use Rattle.cms_operands.specs.declared.choosing.OptionForm.{OptionForm}
-use Rattle.cms_operands.specs.declared.choosing.Parameter.TheVariants as takes
-use Rattle.cms_operands.specs.declared.choosing.Setting.{Setting}
-use Rattle.cms_operands.specs.declared.choosing.Setting.TheVariants as says
+use Rattle.cms_operands.specs.declared.options.ChosenOption.{ChosenOption}
+use Rattle.cms_operands.specs.declared.options.OptionForm.{OptionForm}
+use Rattle.cms_operands.specs.declared.options.Parameter.TheVariants as takes
+use Rattle.cms_operands.specs.declared.options.Setting.{Setting}
+use Rattle.cms_operands.specs.declared.options.Setting.TheVariants as says
 use Rattle.cms_operands.specs.declared.operand.WriteMode.{WriteMode}
 use Rattle.cms_operands.specs.declared.refusal.Refusal.{Refusal}
 use Rattle.cms_files.specs.Identifiers.{name_choice, output_name}

@@ -5,7 +5,7 @@ use Rattle.cms_journal.specs.Journal.{Journal}
 use Rattle.cms_machine.specs.Slots.{Slot}
 use Rattle.cms_model.specs.Changes.{Change}
 use Rattle.cms_model.specs.Minidisks.{Minidisk}
-use Rattle.cms_disk.specs.Changing.{ChangesDisk}
+use Rattle.cms_disk.specs.Changes.{ChangesDisk}
 use Rattle.cms_disk.specs.Disks.{Accessed, IsMinidisk}
 use Rattle.cms_search.specs.Calls.{Spot, holds, machine_of}
 use Rattle.cms_search.specs.Searches.{item_at}

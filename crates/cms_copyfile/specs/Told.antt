@@ -5,8 +5,8 @@ use Rattle.cms_model.specs.Records.{Fits, length_of}
 use Rattle.cms_model.specs.Trees.{Image}
 use Rattle.cms_search.specs.Machine.{Machine}
 use Rattle.cms_search.specs.Shows.{Shows}
-use Rattle.cms_search.specs.Tables.{Accesses}
-use Rattle.cms_disk.specs.Cursors.{HasLeft, Reading}
+use Rattle.cms_search.specs.Tables.{AccessTable}
+use Rattle.cms_disk.specs.Cursors.{HasLeft, Cursor}
 use Rattle.cms_files.specs.Files.{UnitFile}
 use Rattle.cms_files.specs.Told.{IsInfo}
 use Rattle.cms_copyfile.specs.Copyfile.{file_at}
@@ -24,7 +24,7 @@ pub record IsFoundAs (s : Machine) (c : FileCopy) (x : UnitFile) : Type 0 where
   pub stands : IsStanding x.file
 
 -- it is shown so, and its records are left to read
-pub record IsLeftAs (t : Accesses) (c : FileCopy) (image : Image) (r : Reading) (x : UnitFile) : Type 0 where
+pub record IsLeftAs (t : AccessTable) (c : FileCopy) (image : Image) (r : Cursor) (x : UnitFile) : Type 0 where
   pub machine : Machine
   pub shows : Shows t machine
   pub found : IsFoundAs machine c x

@@ -17,7 +17,7 @@ use cms_disk::FileInfo;
 use cms_files::{ToldFile, told_named};
 use cms_names::{Name, equal_signs};
 use cms_operands::WriteMode;
-use cms_search::{Found, Table};
+use cms_search::{AccessTable, Found};
 
 /// A file that is copied, and where its copy goes.
 #[derive(Clone, Copy)]
@@ -81,7 +81,7 @@ pub(crate) fn form_in(info: &FileInfo) -> FileForm
 
 impl FileCopy {
     /// The file that was found, as a line copies it; none exactly where it isn't there.
-    pub fn of(table: &Table, line: &CopyLine, found: &NamedFile) -> Option<FileCopy>
+    pub fn of(table: &AccessTable, line: &CopyLine, found: &NamedFile) -> Option<FileCopy>
         ensures copy { IfSome result (λ c. IsFileCopy table.now line.now c) }
         ensures found { IfSome result (λ c. c.found ≡ found.now) }
         ensures none { result ≡ None → (s : Machine) → Shows table.now s

@@ -16,7 +16,7 @@ use crate::second_pass::{CopyFault, put_copies};
 use cms_disk::{Cursor, DiskFault, Draft, DraftShape};
 use cms_fields::Stamp;
 use cms_names::Name;
-use cms_search::Table;
+use cms_search::AccessTable;
 use cms_world::World;
 use std::alloc::Global;
 
@@ -56,7 +56,7 @@ pub enum Written {
 }
 
 // Makes a draft a file of the disk of a letter, where it has all its records.
-fn finish<W: World>(world: &mut W, table: &mut Table, letter: u8, draft: Draft) -> Written
+fn finish<W: World>(world: &mut W, table: &mut AccessTable, letter: u8, draft: Draft) -> Written
     requires accessed { IsSome (item_at table.old.seats letter) }
     requires may { ForSome (item_at table.old.seats letter)
         (λ s. MayCommit (W.told world.old) s.disk draft) }
@@ -79,7 +79,7 @@ fn finish<W: World>(world: &mut W, table: &mut Table, letter: u8, draft: Draft) 
 // buffer has room for each copy.
 fn fill<W: World>(
     world: &mut W,
-    table: &mut Table,
+    table: &mut AccessTable,
     letter: u8,
     mut draft: Draft,
     cursor: &mut Cursor,
@@ -114,7 +114,7 @@ fn fill<W: World>(
 fn plan_target<W: World>(
     alloc: Global,
     world: &mut W,
-    table: &mut Table,
+    table: &mut AccessTable,
     to: &CopyTarget,
 ) -> Result<Draft, DiskFault>
     requires accessed { IsSome (item_at table.old.seats to.now.letter) }
@@ -146,7 +146,7 @@ fn plan_target<W: World>(
 pub fn write_copies<W: World>(
     alloc: Global,
     world: &mut W,
-    table: &mut Table,
+    table: &mut AccessTable,
     to: &CopyTarget,
     cursor: &mut Cursor,
     plan: &CopyPlan,

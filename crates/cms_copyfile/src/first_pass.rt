@@ -25,7 +25,7 @@ use crate::output::CopyPlan;
 use crate::record::copy_record;
 use crate::told::measure_told;
 use cms_disk::{Cursor, DiskFault};
-use cms_search::Table;
+use cms_search::AccessTable;
 use cms_world::World;
 
 // Measures the copy of the record at a place, where it is copied.
@@ -103,7 +103,7 @@ pub fn measure_copies<W: World>(
 // The copies of a file, of which nothing was read yet, are measured: as its disk tells them, or else by reading it.
 pub(crate) fn measure_input<W: World>(
     world: &mut W,
-    table: &Table,
+    table: &AccessTable,
     file: &FileCopy,
     cursor: &mut Cursor,
     plan: &CopyPlan,

@@ -7,11 +7,15 @@ ghost use Rattle.cms_files.specs.Told.{info_named, place_named};
 
 use crate::copy::FileCopy;
 use cms_files::{OpenFile, open_found};
-use cms_search::{End, Table};
+use cms_search::{AccessTable, End};
 use std::alloc::Global;
 
 /// Opens the file that is copied, as its disk tells of it.
-pub(crate) fn open_input(alloc: Global, table: &Table, file: &FileCopy) -> Result<OpenFile, End>
+pub(crate) fn open_input(
+    alloc: Global,
+    table: &AccessTable,
+    file: &FileCopy,
+) -> Result<OpenFile, End>
     requires place { Some file.now.place
         ≡ place_named table.now file.now.found.letter file.now.found.name }
     requires told { Some file.now.input

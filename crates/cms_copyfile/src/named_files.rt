@@ -13,7 +13,7 @@ use crate::line::CopyLine;
 use cms_files::info_found;
 use cms_names::{Name, Part, Pattern};
 use cms_operands::WriteMode;
-use cms_search::{Found, SearchFault, Table};
+use cms_search::{AccessTable, Found, SearchFault};
 use std::alloc::{AllocError, Global};
 
 /// A file by the letter of its disk and its name. Its place wouldn't hold: the last file takes that of one that is dropped.
@@ -39,7 +39,7 @@ fn pattern_for(part: Option<Part>) -> Pattern
 }
 
 // An output letter that is given is that of a disk that may be written.
-fn check_output(table: &Table, mode: Option<WriteMode>) -> Result<(), SearchFault>
+fn check_output(table: &AccessTable, mode: Option<WriteMode>) -> Result<(), SearchFault>
     ensures { (s : Machine) → Shows table.now s
         → spec.output_is_written (shelves_in s) mode ≡ result }
 {
@@ -50,7 +50,7 @@ fn check_output(table: &Table, mode: Option<WriteMode>) -> Result<(), SearchFaul
 }
 
 // The file that a search found, by its name; none where it isn't there.
-fn named_file(table: &Table, found: Found) -> Option<NamedFile>
+fn named_file(table: &AccessTable, found: Found) -> Option<NamedFile>
     ensures { result ≡ spec.named_at (shelves_of table.now) found }
 {
     let info = info_found(table, found)?;
@@ -61,7 +61,11 @@ fn named_file(table: &Table, found: Found) -> Option<NamedFile>
 }
 
 // The files that a search found, by their names.
-fn named_files(alloc: Global, table: &Table, found: &[Found]) -> Result<Vec<NamedFile>, AllocError>
+fn named_files(
+    alloc: Global,
+    table: &AccessTable,
+    found: &[Found],
+) -> Result<Vec<NamedFile>, AllocError>
     ensures { IfOk result (λ files. files.items
         ≡ spec.files_named (shelves_of table.now) found.now) }
 {
@@ -75,7 +79,7 @@ fn named_files(alloc: Global, table: &Table, found: &[Found]) -> Result<Vec<Name
 /// output's disk, then `NotFound` where there is none of them; else there is no memory.
 pub fn files_copied(
     alloc: Global,
-    table: &Table,
+    table: &AccessTable,
     line: &CopyLine,
 ) -> Result<Vec<NamedFile>, SearchFault>
     ensures found { IfOk result (λ files. (s : Machine) → Shows table.now s

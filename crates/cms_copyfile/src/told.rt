@@ -21,7 +21,7 @@ use crate::record::{Fit, RecordStyle};
 use cms_disk::FileInfo;
 use cms_files::stored_found;
 use cms_names::Format;
-use cms_search::Table;
+use cms_search::AccessTable;
 
 // How long each record of a file is before it is cut or filled, where all are as long.
 fn length_before(info: &FileInfo, style: &RecordStyle) -> Option<u32>
@@ -108,7 +108,7 @@ fn stays_varying(info: &FileInfo, plan: &CopyPlan) -> bool
 }
 
 // The copies of a file of varying records that are all as long as its records: they fill as many bytes.
-fn measure_whole(table: &Table, file: &FileCopy, plan: &CopyPlan) -> Option<Measure>
+fn measure_whole(table: &AccessTable, file: &FileCopy, plan: &CopyPlan) -> Option<Measure>
     requires sound { IsFileInfo file.now.input }
     requires place { Some file.now.place
         ≡ place_named table.now file.now.found.letter file.now.found.name }
@@ -136,7 +136,7 @@ fn measure_whole(table: &Table, file: &FileCopy, plan: &CopyPlan) -> Option<Meas
 
 // The copies of a file, where what its disk tells of it says how long they are. It doesn't where varying records become others of varying
 // lengths, or some of them are copied.
-pub(crate) fn measure_told(table: &Table, file: &FileCopy, plan: &CopyPlan) -> Option<Measure>
+pub(crate) fn measure_told(table: &AccessTable, file: &FileCopy, plan: &CopyPlan) -> Option<Measure>
     requires sound { IsFileInfo file.now.input }
     requires place { Some file.now.place
         ≡ place_named table.now file.now.found.letter file.now.found.name }

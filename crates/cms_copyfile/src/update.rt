@@ -41,7 +41,7 @@ use crate::shape::{shape_behind, shape_of};
 use cms_disk::{DraftShape, FileInfo};
 use cms_fields::{LONGEST_RECORD, Stamp};
 use cms_files::{Updated, stored_found};
-use cms_search::{End, Found, State, Table};
+use cms_search::{AccessTable, End, Found, State};
 use cms_world::World;
 use std::alloc::Global;
 
@@ -158,7 +158,7 @@ fn copy_measured<W: World>(
 
 // The shape of the file that is extended, of which this is told, with records behind its own that were measured.
 fn extended_shape(
-    table: &Table,
+    table: &AccessTable,
     file: &FileCopy,
     own: &FileInfo,
     stamp: Stamp,

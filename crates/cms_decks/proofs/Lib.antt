@@ -1,5 +1,5 @@
 pub mod Cards
 pub mod Headers
-pub mod Filling
-pub mod Loading
+pub mod FilledRecords
+pub mod Loaded
 mod Examples

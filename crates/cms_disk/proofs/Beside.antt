@@ -14,9 +14,9 @@ use Rattle.cms_machine.specs.Slots.{Settled, set_of}
 use Rattle.cms_machine.specs.Steps.{Outcome, Put, most_put, put_stamp, slot_after}
 use Rattle.cms_machine.proofs.Aside.{of_disk}
 use Rattle.cms_machine.proofs.Lists.{split}
-use Rattle.cms_disk.specs.Changing.{Changes}
+use Rattle.cms_disk.specs.Changes.{Changes}
+use Rattle.cms_disk.specs.CrashStates.{CoversOn, LeavesOn}
 use Rattle.cms_disk.specs.Drafts.{WritesAside}
-use Rattle.cms_disk.specs.Leaving.{CoversOn, LeavesOn}
 use Rattle.cms_disk.proofs.StepPieces.{written_append}
 
 -- ---- what a crash leaves of two pieces

@@ -15,28 +15,28 @@ use Rattle.cms_model.specs.Settled.{IsSettled, writes}
 use Rattle.cms_model.specs.LawsUpdates.{HasEither, IsFront, after, now}
 use Rattle.cms_model.proofs.Fronts.{front_nil, front_of_front, none_front}
 use Rattle.cms_model.proofs.Images.{crash_now}
-use Rattle.cms_model.proofs.Renewing.{minidisk_is}
-use Rattle.cms_model.proofs.Settling.{settled_is_firm}
-use Rattle.cms_model.proofs.Standing.{opened_stands}
+use Rattle.cms_model.proofs.Renewed.{minidisk_is}
+use Rattle.cms_model.proofs.SettledUnits.{settled_is_firm}
+use Rattle.cms_model.proofs.Stands.{opened_stands}
 use Rattle.cms_machine.specs.Slots.{Side, Before, After, Settled, set_of, named}
 use Rattle.cms_machine.specs.Steps.{Put, Outcome, Good, OldFault, EitherFault, MayPut, after_put, most_put, put_stamp, put_syncs, slot_after}
 use Rattle.cms_machine.specs.Beats.{AreStamped, HasStamp, IsStamped, written_count}
 use Rattle.cms_machine.proofs.Aside.{of_disk}
 use Rattle.cms_journal.proofs.Sizes.{block_bounds}
-use Rattle.cms_held.specs.LawsRenewing.{writes_of}
-use Rattle.cms_held.specs.Renewing.{Edit, entries_held}
+use Rattle.cms_held.specs.LawsRenewals.{writes_of}
+use Rattle.cms_held.specs.Renewals.{Edit, entries_held}
 use Rattle.cms_held.specs.Systems.{Systems, directory_bytes_of, directory_piece}
 use Rattle.cms_held.proofs.WritesAside.{IsAside}
-use Rattle.cms_held.specs.Opening.{HeldVolume}
-use Rattle.cms_held.specs.Carrying.{IsHeldMinidisk}
+use Rattle.cms_held.specs.HeldVolumes.{HeldVolume}
+use Rattle.cms_held.specs.MinidiskUpdates.{IsHeldMinidisk}
 use Rattle.cms_held.specs.HeldAs.{IsHeldAs}
-use Rattle.cms_disk.specs.Changing.{Altered, Changes, Doubted, HasState, Kept}
+use Rattle.cms_disk.specs.Changes.{Altered, Changes, Doubted, HasState, Kept}
+use Rattle.cms_disk.specs.CrashStates.{CoversOn, LeavesOn}
 use Rattle.cms_disk.specs.Disks.{Accessed, IsMinidisk, IsReadable}
 use Rattle.cms_disk.specs.Drafts.{WritesAside}
-use Rattle.cms_disk.specs.Leaving.{CoversOn, LeavesOn}
 use Rattle.cms_disk.proofs.Beside.{changes_behind}
-use Rattle.cms_disk.proofs.Leaving.{leaves_state}
-use Rattle.cms_disk.proofs.Standing.{is_minidisk}
+use Rattle.cms_disk.proofs.CrashStates.{leaves_state}
+use Rattle.cms_disk.proofs.DisksTold.{is_minidisk}
 use Rattle.cms_disk.proofs.StepPieces.{front_has_stamp, stamped_aside, start_has, told_after, whole_front, AreWhole, front_whole, has_whole, whole_after, written_front}
 
 -- ---- a minidisk, as the volume below is held

@@ -20,21 +20,21 @@ use Rattle.cms_model.proofs.Fronts.{front_nil}
 use Rattle.cms_machine.specs.Beats.{AreStamped, written_count}
 use Rattle.cms_machine.proofs.StepsFit.{syncs_counted}
 use Rattle.cms_tree.specs.Climbs.{AreOwn}
-use Rattle.cms_held.specs.Opening.{HeldFile, HeldVolume, Holding}
-use Rattle.cms_held.specs.Carrying.{IsHeldMinidisk}
+use Rattle.cms_held.specs.HeldVolumes.{HeldFile, HeldVolume, Held}
+use Rattle.cms_held.specs.MinidiskUpdates.{IsHeldMinidisk}
 use Rattle.cms_held.specs.Drafts.{Front, HasDraft, draft_writes, no_front, stored_on}
-use Rattle.cms_held.specs.Growing.{length_with}
-use Rattle.cms_held.specs.LawsRenewing.{AreBlocks, writes_of}
-use Rattle.cms_held.specs.Renewing.{blocks_in}
+use Rattle.cms_held.specs.Growths.{length_with}
+use Rattle.cms_held.specs.LawsRenewals.{AreBlocks, writes_of}
+use Rattle.cms_held.specs.Renewals.{blocks_in}
+use Rattle.cms_held.proofs.DraftBlocks.{none_written}
 use Rattle.cms_held.proofs.DraftOwn.{own_among}
-use Rattle.cms_held.proofs.Drafting.{none_written}
 use Rattle.cms_held.proofs.PutAsides.{free_is_aside}
-use Rattle.cms_draft.specs.BlockWriting.{AddsOwnBlocks, Stops, Wrote, came, its_blocks, written_with}
-use Rattle.cms_draft.specs.Drafting.{Drafting, Drafts, IsDrafting, IsFresh, Puts, marks_in, start_in}
+use Rattle.cms_draft.specs.BlockWriters.{AddsOwnBlocks, Stops, Wrote, came, its_blocks, written_with}
+use Rattle.cms_draft.specs.FileWriters.{FileWriter, Drafts, IsDrafting, IsFresh, Puts, marks_in, start_in}
 use Rattle.cms_draft.proofs.FilePuts.{stored_long}
 use Rattle.cms_draft.specs.declared.shape.DraftShape.{DraftShape}
-use Rattle.cms_edf.specs.FileDrafts.{CommitEvents, Commits, DraftStands, FileDraft, IsCommitted, IsCommittedAt, IsDraftFor, IsLeft, IsSomeDraft, LeadsToFile, MakesChange, commit_writes, file_for, put_in, put_writes, tree_of}
-use Rattle.cms_edf.specs.Growing.{IsFrontOf, IsMoreFor}
+use Rattle.cms_edf.specs.FileDrafts.{CommitEvents, Commits, DraftStands, Draft, IsCommitted, IsCommittedAt, IsDraftFor, IsLeft, IsSomeDraft, LeadsToFile, MakesChange, commit_writes, file_for, put_in, put_writes, tree_of}
+use Rattle.cms_edf.specs.Growths.{IsFrontOf, IsMoreFor}
 use Rattle.cms_edf.specs.declared.doubt.Doubt.{Doubt}
 use Rattle.cms_edf.specs.declared.doubt.Doubt.TheVariants.{Old, Either}
 use Rattle.cms_edf.proofs.Added.{added_blocks}
@@ -44,16 +44,16 @@ use Rattle.cms_edf.proofs.Finished.{to_front, with_front, writes_to}
 use Rattle.cms_edf.proofs.Planned.{all_in}
 use Rattle.cms_machine.specs.Slots.{Side}
 use Rattle.cms_machine.specs.Steps.{EitherFault, Good, MayPut, OldFault, put_stamp, put_syncs, update_syncs}
-use Rattle.cms_disk.specs.Changing.{Altered, Alters, IsDevices, fault_of}
+use Rattle.cms_disk.specs.Changes.{Altered, Alters, IsDevices, fault_of}
 use Rattle.cms_disk.specs.declared.fault.DiskFault.{DiskFault}
 use Rattle.cms_disk.specs.Disks.{Accessed, IsMinidisk, IsReadable}
 use Rattle.cms_disk.specs.Drafts.{BeginsPut, GoesOn, IsFor, IsGivenUp, IsSameDraft, IsToAdd, IsToPut, Stands, WritesAside, file_with}
-use Rattle.cms_disk.proofs.Filling.{for_still, some_for}
+use Rattle.cms_disk.proofs.RecordsPut.{for_still, some_for}
 use Rattle.cms_disk.proofs.Beside.{aside_behind, behind_events, stamped_any}
-use Rattle.cms_disk.specs.Leaving.{CoversOn}
+use Rattle.cms_disk.specs.CrashStates.{CoversOn}
 use Rattle.cms_disk.proofs.Courses.{Course, HasRoom, covers_old, doubt_behind, held_minidisk, made_behind, stamped_writes, unmade_behind}
+use Rattle.cms_disk.proofs.DisksTold.{is_minidisk, minidisk_same}
 use Rattle.cms_disk.proofs.FewWritten.{put_so_far}
-use Rattle.cms_disk.proofs.Standing.{is_minidisk, minidisk_same}
 use Rattle.cms_held.proofs.PutCarried.{put_writes as held_put_writes}
 use Rattle.cms_held.proofs.WritesLong.{both_blocks}
 use Rattle.cms_disk.proofs.StepPieces.{no_directory, one_sync, only_update, only_writes, own_blocks, stamped_behind, told_after, update_stamped, update_whole, whole_front, written_append, written_front, written_held, written_same, written_update, written_writes}
@@ -67,7 +67,7 @@ own_stamped u size blocks [] own low = tt
 own_stamped u size blocks (w ∷ ws) own low = ((λ same. no_directory w.block (low w.block own.0)), own_stamped u size blocks ws own.2 low)
 
 -- blocks of a draft lie from 6 on
-draft_high : (v : HeldVolume) (d : FileDraft) → IsSomeDraft v d → (n : ℕ) → In n (its_blocks d.writer.writer) → 6 ≤ n
+draft_high : (v : HeldVolume) (d : Draft) → IsSomeDraft v d → (n : ℕ) → In n (its_blocks d.writer.writer) → 6 ≤ n
 draft_high v d some n there =
     let w = d.writer.writer in
     (all_in (λ k. (6 ≤ k) × (k ≤ v.label.blocks)) (blocks_in (tree_of d)) some.within n (own_among (w.bsize / w.psize) n w.tree.leaves w.tree.pointers w.kept there)).0
@@ -76,11 +76,11 @@ no_syncs : (u : ℕ) (ws : List Write) → syncs (writes u ws) ≡ 0
 no_syncs u ws = (syncs_counted u ws [] 0).update_old (writes u ws) (whole_front (writes u ws))
 
 -- what a draft adds is written beside the minidisk, which stands
-record Written (old new : Told) (d : Accessed) (m : Minidisk) (draft : FileDraft) (ws : List Write) : Type 0 where
+record Written (old new : Told) (d : Accessed) (m : Minidisk) (draft : Draft) (ws : List Write) : Type 0 where
   stands : Stands new d m
   aside : WritesAside old new d.volume.disk d.volume.unit m
 
-written_aside : (j : Journal) (old new : Told) (d : Accessed) (m : Minidisk) (draft : FileDraft) → old ≡ Some j → IsMinidisk j d m → IsReadable j d → IsSomeDraft d.volume draft
+written_aside : (j : Journal) (old new : Told) (d : Accessed) (m : Minidisk) (draft : Draft) → old ≡ Some j → IsMinidisk j d m → IsReadable j d → IsSomeDraft d.volume draft
     → (own : AddsOwnBlocks old new draft.writer.writer) → Written old new d m draft own.part
 written_aside j old new d m draft is at has some own =
     let p = some in
@@ -110,7 +110,7 @@ written_aside j old new d m draft is at has some own =
     }
 
 -- as many blocks as these events say, whichever they are
-written_told : (j : Journal) (old new : Told) (d : Accessed) (m : Minidisk) (draft : FileDraft) (own : AddsOwnBlocks old new draft.writer.writer) (w : Written old new d m draft own.part)
+written_told : (j : Journal) (old new : Told) (d : Accessed) (m : Minidisk) (draft : Draft) (own : AddsOwnBlocks old new draft.writer.writer) (w : Written old new d m draft own.part)
     → (es : List Event) → old ≡ Some j → new ≡ plus old es → written_count w.aside.events ≡ written_count es
 written_told j old new d m draft own w es is told =
     written_same j w.aside.events es
@@ -145,14 +145,14 @@ no_blocks (suc n) bsize filled some none = absurd (go (n * bsize) (more n bsize)
     go : (rest : ℕ) → suc n * bsize ≡ bsize + rest → ⊥
     go rest is = omega (arith, some, none, is)
 
-nothing_stands : (image : ℕ → List ℕ) (bsize psize whole : ℕ) (leaves : List ℕ) (draft : Drafting) (fresh : List ℕ) (kept : ℕ) (bytes : List ℕ) (records : List (List ℕ)) → whole ≡ 0
+nothing_stands : (image : ℕ → List ℕ) (bsize psize whole : ℕ) (leaves : List ℕ) (draft : FileWriter) (fresh : List ℕ) (kept : ℕ) (bytes : List ℕ) (records : List (List ℕ)) → whole ≡ 0
     → HasDraft image bsize psize leaves (marks_in draft no_front records) fresh kept [] bytes whole
 unfolding draft_writes
 nothing_stands image bsize psize whole leaves draft fresh kept bytes records none =
     subst (λ (k : ℕ). HasDraft image bsize psize leaves (marks_in draft no_front records) fresh kept [] bytes k) (sym none) tt
 
 -- a draft of a whole file begins for the change that puts it
-pub begins_put : (d e : Accessed) (name : Name) (shape : DraftShape) (stamp : Stamp) (draft : FileDraft) → e.volume ≡ d.volume → IsDraftFor d.volume name shape stamp draft
+pub begins_put : (d e : Accessed) (name : Name) (shape : DraftShape) (stamp : Stamp) (draft : Draft) → e.volume ≡ d.volume → IsDraftFor d.volume name shape stamp draft
     → IsFresh d.volume.unit d.volume.disk.bsize shape (tree_of draft) draft.writer → BeginsPut d e name shape stamp draft
 begins_put d e name shape stamp draft volume planned fresh j m records is has have long =
     let w = draft.writer.writer in
@@ -183,7 +183,7 @@ begins_put d e name shape stamp draft volume planned fresh j m records is has ha
 -- ---- a record is put
 
 -- the draft that it is then has written these blocks too
-counted_on : (start old new : Told) (d : Accessed) (m : Minidisk) (draft draft' : FileDraft) (change : Change) (stamp : Stamp) (done more : List (List ℕ)) (text : List ℕ)
+counted_on : (start old new : Told) (d : Accessed) (m : Minidisk) (draft draft' : Draft) (change : Change) (stamp : Stamp) (done more : List (List ℕ)) (text : List ℕ)
     → (g : GoesOn start old d m draft change stamp done (text ∷ more)) (own : AddsOwnBlocks old new draft.writer.writer) → IsSameDraft draft draft'
     → Wrote old new draft.writer.writer draft'.writer.writer g.front.nodes (stored_on draft.writer.shape.format g.front (done ++ (text ∷ more))) (marks_in draft.writer g.front (done ++ (text ∷ more)))
     → (w : Written old new d m draft own.part)
@@ -206,7 +206,7 @@ counted_on start old new d m draft draft' change stamp done more text g own same
     let together = ap (λ (l : List (List ℕ)). length (put_writes draft' g.front l)) (append_assoc done (text ∷ []) more) in
     omega (arith, before, both, here, one, part, then', together)
 
-pub goes_on : (start old new : Told) (d : Accessed) (m : Minidisk) (draft draft' : FileDraft) (change : Change) (stamp : Stamp) (done more : List (List ℕ)) (text : List ℕ)
+pub goes_on : (start old new : Told) (d : Accessed) (m : Minidisk) (draft draft' : Draft) (change : Change) (stamp : Stamp) (done more : List (List ℕ)) (text : List ℕ)
     → (g : GoesOn start old d m draft change stamp done (text ∷ more)) → AddsOwnBlocks old new draft.writer.writer → IsSameDraft draft draft' → IsDrafting draft'.writer
     → Puts old new draft.writer draft'.writer g.front done text more (Ok tt) → ForSome new (λ k. DraftStands k draft'.writer g.front (done ++ (text ∷ more)))
     → ((name : Name) (f : HeldFile) (shape : DraftShape) → IsMoreFor d.volume name f shape stamp draft → IsFrontOf g.stands.at d.volume f (tree_of draft) g.front
@@ -234,7 +234,7 @@ goes_on start old new d m draft draft' change stamp done more text g own same so
       few = omega (arith, counts, low);
     }
 
-pub gives_up : (start old new : Told) (d : Accessed) (m : Minidisk) (draft : FileDraft) (change : Change) (stamp : Stamp) (done more : List (List ℕ)) (text : List ℕ)
+pub gives_up : (start old new : Told) (d : Accessed) (m : Minidisk) (draft : Draft) (change : Change) (stamp : Stamp) (done more : List (List ℕ)) (text : List ℕ)
     → (g : GoesOn start old d m draft change stamp done (text ∷ more)) → AddsOwnBlocks old new draft.writer.writer → IsDrafting draft.writer
     → came draft.writer.writer + length (stored draft.writer.shape.format (text ∷ [])) ≤ draft.writer.writer.size
     → Stops old new draft.writer.writer g.front.nodes (stored_on draft.writer.shape.format g.front (done ++ (text ∷ more))) (marks_in draft.writer g.front (done ++ (text ∷ more)))
@@ -302,7 +302,7 @@ add_of_file name more added after = record {
 
 -- what its commit comes to, which is this change; what it writes of directory and map are blocks, of which the directory's first has the
 -- stamp
-record Committing (j : Journal) (start old : Told) (d : Accessed) (m : Minidisk) (draft : FileDraft) (change : Change) (stamp : Stamp) (front : Front) (records : List (List ℕ)) (rest : List Write) :
+record Committing (j : Journal) (start old : Told) (d : Accessed) (m : Minidisk) (draft : Draft) (change : Change) (stamp : Stamp) (front : Front) (records : List (List ℕ)) (rest : List Write) :
     Type 0 where
   told_is : old ≡ Some j
   aside : WritesAside start old d.volume.disk d.volume.unit m
@@ -316,7 +316,7 @@ record Committing (j : Journal) (start old : Told) (d : Accessed) (m : Minidisk)
   blocks : AreBlocks d.volume.disk.bsize (writes_of d.volume draft.systems)
   of_file : IsOfFile change (changed m change)
 
-module _ (j : Journal) (start old : Told) (d : Accessed) (m : Minidisk) (draft : FileDraft) (change : Change) (stamp : Stamp) (front : Front) (records : List (List ℕ)) (rest : List Write)
+module _ (j : Journal) (start old : Told) (d : Accessed) (m : Minidisk) (draft : Draft) (change : Change) (stamp : Stamp) (front : Front) (records : List (List ℕ)) (rest : List Write)
     (x : Committing j start old d m draft change stamp front records rest) where
   abbrev u : ℕ
   u = d.volume.unit
@@ -388,30 +388,30 @@ module _ (j : Journal) (start old : Told) (d : Accessed) (m : Minidisk) (draft :
   commits_to new e (Err why) cut to leads same = commits_err new e why cut same
 
 -- the blocks that were left are the same ones
-same_rest : (draft : FileDraft) (front : Front) (records : List (List ℕ)) (a b : List Write) → IsLeft draft front records a → IsLeft draft front records b → a ≡ b
+same_rest : (draft : Draft) (front : Front) (records : List (List ℕ)) (a b : List Write) → IsLeft draft front records a → IsLeft draft front records b → a ≡ b
 same_rest draft front records a b one two = append_cancel_left _ a b (one.is ∙ sym two.is)
 
-makes_change : (j : Journal) (new : Told) (v w : HeldVolume) (m : Minidisk) (draft : FileDraft) (done rest : List Write) (change : Change) (r : Result ⊤ Doubt)
+makes_change : (j : Journal) (new : Told) (v w : HeldVolume) (m : Minidisk) (draft : Draft) (done rest : List Write) (change : Change) (r : Result ⊤ Doubt)
     → Commits j new v w m draft done rest change r → MakesChange j v draft done rest m change
 makes_change j new v w m draft done rest change (Ok x) c = c.0
 makes_change j new v w m draft done rest change (Err Old) c = c.0
 makes_change j new v w m draft done rest change (Err Either) c = c.0
 
 -- the volume stays on its unit
-pub stays_on : (v w : HeldVolume) (draft : FileDraft) (r : Result ⊤ Doubt) → IsSomeDraft v draft → OnOk r (LeadsToFile v draft w) → OnErr r (w ≡ v) → (w.unit ≡ v.unit) × (w.disk ≡ v.disk)
+pub stays_on : (v w : HeldVolume) (draft : Draft) (r : Result ⊤ Doubt) → IsSomeDraft v draft → OnOk r (LeadsToFile v draft w) → OnErr r (w ≡ v) → (w.unit ≡ v.unit) × (w.disk ≡ v.disk)
 stays_on v w draft (Ok x) some leads same =
     let is = leads some in
     (ap (λ (x : HeldVolume). x.unit) is, ap (λ (x : HeldVolume). x.disk) is)
 stays_on v w draft (Err why) some leads same = (ap (λ (x : HeldVolume). x.unit) same, ap (λ (x : HeldVolume). x.disk) same)
 
-pub on_volume : (h k : Holding) (r : Result ⊤ Doubt) → OnErr r (h ≡ k) → OnErr r (h.volume ≡ k.volume)
+pub on_volume : (h k : Held) (r : Result ⊤ Doubt) → OnErr r (h ≡ k) → OnErr r (h.volume ≡ k.volume)
 on_volume h k (Ok x) same = tt
-on_volume h k (Err why) same = ap (λ (x : Holding). x.volume) same
+on_volume h k (Err why) same = ap (λ (x : Held). x.volume) same
 
 -- ---- what a commit says
 
 -- of the events of any draft, of a file that is put, and of records that are added
-pub record CommitSays (old new : Told) (v w : HeldVolume) (draft : FileDraft) (r : Result ⊤ Doubt) : Type 0 where
+pub record CommitSays (old new : Told) (v w : HeldVolume) (draft : Draft) (r : Result ⊤ Doubt) : Type 0 where
   pub events : (front : Front) (records : List (List ℕ)) → Drafts draft.writer front records [] → IsCommitted old new v draft front records r
   pub puts : (j : Journal) (m : Minidisk) (name : Name) (shape : DraftShape) (stamp : Stamp) (records : List (List ℕ)) → old ≡ Some j → IsHeldMinidisk j v m → IsDraftFor v name shape stamp draft
       → Drafts draft.writer no_front records [] → length_of shape.format shape.length records ≡ shape.length → DraftStands j draft.writer no_front records
@@ -423,25 +423,25 @@ pub record CommitSays (old new : Told) (v w : HeldVolume) (draft : FileDraft) (r
   pub kept : OnErr r (w ≡ v)
 
 -- the setting of a commit
-pub record Ending (start old : Told) (d : Accessed) (m : Minidisk) (draft : FileDraft) (change : Change) (stamp : Stamp) (records : List (List ℕ)) : Type 0 where
+pub record Ending (start old : Told) (d : Accessed) (m : Minidisk) (draft : Draft) (change : Change) (stamp : Stamp) (records : List (List ℕ)) : Type 0 where
   pub goes : GoesOn start old d m draft change stamp records []
   pub sound : IsDrafting draft.writer
 
 -- it is the file that was asked for
-file_is : (v : HeldVolume) (name : Name) (shape : DraftShape) (stamp : Stamp) (d : FileDraft) (records : List (List ℕ)) → IsDraftFor v name shape stamp d
+file_is : (v : HeldVolume) (name : Name) (shape : DraftShape) (stamp : Stamp) (d : Draft) (records : List (List ℕ)) → IsDraftFor v name shape stamp d
     → put_in d records ≡ file_with name shape records
 file_is v name shape stamp d records is =
     ap (λ (e : Entry). record { name = e.name; number = e.number; format = e.format; length = e.length; stamp = e.stamp; records = records }) is.entry_is
 
 -- what a change that is committed comes to, and what was written for it
-record Comes (j : Journal) (new : Told) (d e : Accessed) (m : Minidisk) (draft : FileDraft) (front : Front) (records : List (List ℕ)) (change : Change) (stamp : Stamp) (r : Result ⊤ Doubt) :
+record Comes (j : Journal) (new : Told) (d e : Accessed) (m : Minidisk) (draft : Draft) (front : Front) (records : List (List ℕ)) (change : Change) (stamp : Stamp) (r : Result ⊤ Doubt) :
     Type 0 where
   at : IsCommittedAt j new d.volume e.volume m draft front records change r
   stamped : AreStamped d.volume.unit (Some stamp) (writes d.volume.unit (writes_of d.volume draft.systems))
   blocks : AreBlocks d.volume.disk.bsize (writes_of d.volume draft.systems)
   of_file : IsOfFile change (changed m change)
 
-put_comes : (j : Journal) (old new : Told) (d e : Accessed) (m : Minidisk) (draft : FileDraft) (front : Front) (records : List (List ℕ)) (new_file : File) (stamp : Stamp) (r : Result ⊤ Doubt)
+put_comes : (j : Journal) (old new : Told) (d e : Accessed) (m : Minidisk) (draft : Draft) (front : Front) (records : List (List ℕ)) (new_file : File) (stamp : Stamp) (r : Result ⊤ Doubt)
     → CommitSays old new d.volume e.volume draft r → old ≡ Some j → IsHeldMinidisk j d.volume m → Drafts draft.writer front records [] → DraftStands j draft.writer front records
     → IsToPut d draft new_file stamp front records → Comes j new d e m draft front records (Put new_file) stamp r
 put_comes j old new d e m draft front records file stamp r says told held drafts stands is =
@@ -460,7 +460,7 @@ put_comes j old new d e m draft front records file stamp r says told held drafts
       of_file = put_of_file file (changed m (Put file));
     }
 
-add_comes : (j : Journal) (old new : Told) (d e : Accessed) (m : Minidisk) (draft : FileDraft) (front : Front) (records : List (List ℕ)) (name : Name) (added stamp : Stamp) (r : Result ⊤ Doubt)
+add_comes : (j : Journal) (old new : Told) (d e : Accessed) (m : Minidisk) (draft : Draft) (front : Front) (records : List (List ℕ)) (name : Name) (added stamp : Stamp) (r : Result ⊤ Doubt)
     → CommitSays old new d.volume e.volume draft r → old ≡ Some j → IsHeldMinidisk j d.volume m → IsDrafting draft.writer → Drafts draft.writer front records []
     → DraftStands j draft.writer front records → IsToAdd j d draft name added stamp front records → Comes j new d e m draft front records (Add name records added) stamp r
 add_comes j old new d e m draft front records name added stamp r says told held sound drafts stands is =
@@ -475,7 +475,7 @@ add_comes j old new d e m draft front records name added stamp r says told held 
       of_file = add_of_file name records added (changed m (Add name records added));
     }
 
-comes_as : (j : Journal) (old new : Told) (d e : Accessed) (m : Minidisk) (draft : FileDraft) (front : Front) (records : List (List ℕ)) (change : Change) (stamp : Stamp) (r : Result ⊤ Doubt)
+comes_as : (j : Journal) (old new : Told) (d e : Accessed) (m : Minidisk) (draft : Draft) (front : Front) (records : List (List ℕ)) (change : Change) (stamp : Stamp) (r : Result ⊤ Doubt)
     → CommitSays old new d.volume e.volume draft r → old ≡ Some j → IsHeldMinidisk j d.volume m → IsDrafting draft.writer → Drafts draft.writer front records []
     → DraftStands j draft.writer front records → IsFor j d draft change stamp front records → Comes j new d e m draft front records change stamp r
 comes_as j old new d e m draft front records (Put file) stamp r says told held sound drafts stands is = put_comes j old new d e m draft front records file stamp r says told held drafts stands is
@@ -487,7 +487,7 @@ comes_as j old new d e m draft front records (Rename from to number) stamp r say
 comes_as j old new d e m draft front records (Relabel volid) stamp r says told held sound drafts stands is = absurd is
 comes_as j old new d e m draft front records (Century pivot) stamp r says told held sound drafts stands is = absurd is
 
-pub ends_so : (start old new : Told) (d e : Accessed) (m : Minidisk) (draft : FileDraft) (change : Change) (stamp : Stamp) (records : List (List ℕ)) (r : Result ⊤ Doubt)
+pub ends_so : (start old new : Told) (d e : Accessed) (m : Minidisk) (draft : Draft) (change : Change) (stamp : Stamp) (records : List (List ℕ)) (r : Result ⊤ Doubt)
     → Ending start old d m draft change stamp records → CommitSays old new d.volume e.volume draft r → Alters start new d e m change stamp (answered r)
 ends_so start old new d e m draft change stamp records r x says =
     let g = x.goes in

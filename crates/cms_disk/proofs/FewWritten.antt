@@ -15,7 +15,7 @@ use Rattle.cms_model.specs.Growth.{growth_taken}
 use Rattle.cms_model.specs.Minidisks.{File, Minidisk}
 use Rattle.cms_model.specs.Records.{stored}
 use Rattle.cms_model.specs.Settled.{Write}
-use Rattle.cms_model.specs.Sharing.{MayBeWritten, fresh_count}
+use Rattle.cms_model.specs.SharedTrees.{MayBeWritten, fresh_count}
 use Rattle.cms_model.specs.Sizes.{file_size, pointer_count, stored_size, tree_size}
 use Rattle.cms_model.specs.Stands.{minidisk_in}
 use Rattle.cms_model.specs.Trees.{bytes_at, image_of}
@@ -25,34 +25,34 @@ use Rattle.cms_tree.specs.Builds.{IsBuildable}
 use Rattle.cms_tree.specs.Climbs.{climb_writes_on}
 use Rattle.cms_tree.specs.Kept.{Kept}
 use Rattle.cms_tree.specs.declared.types.Mark.{Mark}
-use Rattle.cms_tree.proofs.Building.{fan_wide}
-use Rattle.cms_tree.proofs.Lifting.{some_fan}
-use Rattle.cms_held.specs.Carrying.{IsHeldMinidisk}
+use Rattle.cms_tree.proofs.BuiltTrees.{fan_wide}
+use Rattle.cms_tree.proofs.ClimbBlocks.{some_fan}
 use Rattle.cms_held.specs.Drafts.{Front, data_write, draft_writes, no_front, own_blocks, stored_on}
-use Rattle.cms_held.specs.Growing.{places_behind}
+use Rattle.cms_held.specs.Growths.{places_behind}
+use Rattle.cms_held.specs.HeldVolumes.{HeldFile, HeldVolume}
 use Rattle.cms_held.specs.Kept.{IsKeptFile, Keeps}
-use Rattle.cms_held.specs.Opening.{HeldFile, HeldVolume}
+use Rattle.cms_held.specs.MinidiskUpdates.{IsHeldMinidisk}
 use Rattle.cms_held.specs.SharedTrees.{HasShape}
 use Rattle.cms_held.proofs.AddAnswered.{FileAt, file_at, more_size, need_parts}
 use Rattle.cms_held.proofs.AddCarried.{growth_counted, leaves_are}
+use Rattle.cms_held.proofs.DraftBlocks.{next_written, none_written}
 use Rattle.cms_held.proofs.DraftCount.{draft_count}
 use Rattle.cms_held.proofs.DraftOwn.{own_all}
 use Rattle.cms_held.proofs.Drafted.{fan_is}
-use Rattle.cms_held.proofs.Drafting.{next_written, none_written}
 use Rattle.cms_held.proofs.GrownBlocks.{own_is_fresh}
 use Rattle.cms_held.proofs.SharedBlocks.{fresh_is_counted}
-use Rattle.cms_draft.specs.BlockWriting.{its_blocks, written_with}
-use Rattle.cms_draft.specs.Drafting.{Drafting, Drafts, IsDrafting, marks_in}
+use Rattle.cms_draft.specs.BlockWriters.{its_blocks, written_with}
+use Rattle.cms_draft.specs.FileWriters.{FileWriter, Drafts, IsDrafting, marks_in}
 use Rattle.cms_draft.specs.declared.block_writer.BlockWriter.{BlockWriter}
 use Rattle.cms_draft.specs.declared.shape.DraftShape.{DraftShape}
-use Rattle.cms_edf.specs.FileDrafts.{FileDraft, tree_of}
-use Rattle.cms_edf.specs.Growing.{IsGrowthPlanned, IsMoreFor, kept_in}
+use Rattle.cms_edf.specs.FileDrafts.{Draft, tree_of}
+use Rattle.cms_edf.specs.Growths.{IsGrowthPlanned, IsMoreFor, kept_in}
 use Rattle.cms_edf.proofs.DraftPut.{plan_of}
 use Rattle.cms_edf.proofs.Planned.{named_at as named_in}
 use Rattle.cms_disk.specs.Disks.{Accessed}
 use Rattle.cms_disk.specs.Drafts.{IsFor, IsToAdd, IsToPut}
-use Rattle.cms_disk.proofs.Beginning.{bytes_low}
-use Rattle.cms_disk.proofs.Finding.{kept_at}
+use Rattle.cms_disk.proofs.FilesFound.{kept_at}
+use Rattle.cms_disk.proofs.FirstStarts.{bytes_low}
 
 -- ---- what is written with some data blocks, and with all
 
@@ -94,7 +94,7 @@ few_own bsize psize leaves marks fresh kept es bytes k plan low = ⊎_elim
     (cases_lt kept (length leaves))
 
 -- as far as a draft has come
-drafted_few : (d : Drafting) (front : Front) (done more : List (List ℕ)) → IsDrafting d → Drafts d front done more → (k : ℕ) → k ≤ length d.writer.tree.leaves
+drafted_few : (d : FileWriter) (front : Front) (done more : List (List ℕ)) → IsDrafting d → Drafts d front done more → (k : ℕ) → k ≤ length d.writer.tree.leaves
     → length (written_with d.writer front.nodes (stored_on d.shape.format front (done ++ more)) (marks_in d front (done ++ more)) k) ≤ length (its_blocks d.writer)
 drafted_few d front done more sound drafts k low =
     let w = d.writer in
@@ -113,7 +113,7 @@ whole_size : (fan blocks leaves pointers : ℕ) → leaves ≡ blocks → pointe
 unfolding tree_size
 whole_size fan blocks leaves pointers count nodes = omega (arith, count, nodes)
 
-put_few : (j : Journal) (d : Accessed) (m : Minidisk) (draft : FileDraft) (new : File) (stamp : Stamp) (front : Front) (done more : List (List ℕ)) → IsHeldMinidisk j d.volume m → IsDrafting draft.writer
+put_few : (j : Journal) (d : Accessed) (m : Minidisk) (draft : Draft) (new : File) (stamp : Stamp) (front : Front) (done more : List (List ℕ)) → IsHeldMinidisk j d.volume m → IsDrafting draft.writer
     → Drafts draft.writer front done more → IsToPut d draft new stamp front (done ++ more) → length (its_blocks draft.writer.writer) ≤ need m (Put new)
 put_few j d m draft new stamp front done more held sound drafts is =
     let v = d.volume in
@@ -146,7 +146,7 @@ put_few j d m draft new stamp front done more held sound drafts is =
 
 -- ---- records that are added
 
-add_few : (j : Journal) (d : Accessed) (m : Minidisk) (draft : FileDraft) (name : Name) (added stamp : Stamp) (front : Front) (done more : List (List ℕ)) → IsHeldMinidisk j d.volume m
+add_few : (j : Journal) (d : Accessed) (m : Minidisk) (draft : Draft) (name : Name) (added stamp : Stamp) (front : Front) (done more : List (List ℕ)) → IsHeldMinidisk j d.volume m
     → IsDrafting draft.writer → Drafts draft.writer front done more → IsToAdd j d draft name added stamp front (done ++ more)
     → length (its_blocks draft.writer.writer) ≤ need m (Add name (done ++ more) added)
 add_few j d m draft name added stamp front done more held sound drafts is =
@@ -240,7 +240,7 @@ add_few j d m draft name added stamp front done more held sound drafts is =
 
 -- ---- both
 
-pub few_for : (j : Journal) (d : Accessed) (m : Minidisk) (draft : FileDraft) (change : Change) (stamp : Stamp) (front : Front) (done more : List (List ℕ)) → IsHeldMinidisk j d.volume m
+pub few_for : (j : Journal) (d : Accessed) (m : Minidisk) (draft : Draft) (change : Change) (stamp : Stamp) (front : Front) (done more : List (List ℕ)) → IsHeldMinidisk j d.volume m
     → IsDrafting draft.writer → Drafts draft.writer front done more → IsFor j d draft change stamp front (done ++ more) → length (its_blocks draft.writer.writer) ≤ need m change
 few_for j d m draft (Put new) stamp front done more held sound drafts is = put_few j d m draft new stamp front done more held sound drafts is
 few_for j d m draft (Add name records added) stamp front done more held sound drafts is =
@@ -252,7 +252,7 @@ few_for j d m draft (Relabel volid) stamp front done more held sound drafts is =
 few_for j d m draft (Century pivot) stamp front done more held sound drafts is = absurd is
 
 -- as far as it has come it has written no more
-pub put_so_far : (j : Journal) (d : Accessed) (m : Minidisk) (draft : FileDraft) (change : Change) (stamp : Stamp) (front : Front) (done more : List (List ℕ)) (k : ℕ) → IsHeldMinidisk j d.volume m
+pub put_so_far : (j : Journal) (d : Accessed) (m : Minidisk) (draft : Draft) (change : Change) (stamp : Stamp) (front : Front) (done more : List (List ℕ)) (k : ℕ) → IsHeldMinidisk j d.volume m
     → IsDrafting draft.writer → Drafts draft.writer front done more → IsFor j d draft change stamp front (done ++ more) → k ≤ length (tree_of draft).leaves
     → length (written_with draft.writer.writer front.nodes (stored_on draft.writer.shape.format front (done ++ more)) (marks_in draft.writer front (done ++ more)) k) ≤ need m change
 put_so_far j d m draft change stamp front done more k held sound drafts is low =

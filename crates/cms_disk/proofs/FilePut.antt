@@ -12,8 +12,8 @@ use Rattle.cms_model.specs.Minidisks.{File, Minidisk, Volume}
 use Rattle.cms_model.specs.Records.{Fits, IsValid, StandsFor, length_of, stored, with_length}
 use Rattle.cms_model.proofs.Records.{length-with_length, length_stored_fixed}
 use Rattle.cms_held.specs.Kept.{IsSized}
-use Rattle.cms_edf.specs.FileDrafts.{FileDraft, IsDraftFor, LeadsToFile, file_for, list_with, tree_of}
-use Rattle.cms_edf.specs.Growing.{IsMoreFor}
+use Rattle.cms_edf.specs.FileDrafts.{Draft, IsDraftFor, LeadsToFile, file_for, list_with, tree_of}
+use Rattle.cms_edf.specs.Growths.{IsMoreFor}
 use Rattle.cms_edf.proofs.DraftPut.{more_edit, more_edit_is, more_is_some, new_edit_is, new_is_some}
 use Rattle.cms_model.specs.Changes.{Add, Answer, Change, Changed, Full, Limited, Put, answer_of, changed}
 use Rattle.cms_model.specs.declared.file.FileData.{FileData}
@@ -21,21 +21,21 @@ use Rattle.cms_machine.specs.Beats.{written_count}
 use Rattle.cms_machine.specs.Slots.{Settled, named, set_of}
 use Rattle.cms_machine.specs.Steps.{EitherFault, MayPut, OldFault, after_put, most_put, put_stamp, put_syncs}
 use Rattle.cms_machine.proofs.Aside.{of_disk}
-use Rattle.cms_held.specs.Opening.{HeldFile, HeldTree, HeldVolume}
-use Rattle.cms_held.specs.Renewing.{Edit, renewed}
+use Rattle.cms_held.specs.HeldVolumes.{HeldFile, HeldTree, HeldVolume}
+use Rattle.cms_held.specs.Renewals.{Edit, renewed}
 use Rattle.cms_held.proofs.Fronts.{if_err}
 use Rattle.cms_world.specs.Seen.{Seen}
-use Rattle.cms_draft.specs.Drafting.{Drafting, HaveShape, IsFresh, start_in}
+use Rattle.cms_draft.specs.FileWriters.{FileWriter, HaveShape, IsFresh, start_in}
 use Rattle.cms_draft.specs.declared.shape.DraftShape.{DraftShape}
-use Rattle.cms_disk.specs.Leaving.{CoversOn}
-use Rattle.cms_disk.specs.Changing.{Alters, Changes, ChangesDisk, HasState, IsWholeAt, IsDevices, IsPutIn, Kept}
+use Rattle.cms_disk.specs.CrashStates.{CoversOn}
+use Rattle.cms_disk.specs.Changes.{Alters, Changes, ChangesDisk, HasState, IsWholeAt, IsDevices, IsPutIn, Kept}
 use Rattle.cms_disk.specs.Disks.{Accessed, place_of}
 use Rattle.cms_disk.specs.Drafts.{AreLast, HaveCounts, IsAnsweredBy, IsDraftFault, IsGivenUp, IsPutFault, file_with, shape_of}
 use Rattle.cms_disk.specs.declared.fault.DiskFault.{DiskFault}
 use Rattle.cms_disk.specs.declared.fault.DiskFault.TheVariants as failed
 use Rattle.cms_disk.proofs.Beside.{stamped_any}
-use Rattle.cms_disk.proofs.Filling.{changes_then}
-use Rattle.cms_disk.proofs.Standing.{minidisk_same}
+use Rattle.cms_disk.proofs.DisksTold.{minidisk_same}
+use Rattle.cms_disk.proofs.RecordsPut.{changes_then}
 
 -- ---- a draft that was refused
 
@@ -143,7 +143,7 @@ sized_so f records s = sized_at f.format f.length f.count (length f.bytes) recor
 -- ---- the start
 
 -- its records are all that the draft has
-pub are_last : (f : FileData) (valid : IsValid f) (unit bsize : ℕ) (shape : DraftShape) (tree : HeldTree) (d : Drafting) → shape ≡ shape_of f → IsFresh unit bsize shape tree d → AreLast d f
+pub are_last : (f : FileData) (valid : IsValid f) (unit bsize : ℕ) (shape : DraftShape) (tree : HeldTree) (d : FileWriter) → shape ≡ shape_of f → IsFresh unit bsize shape tree d → AreLast d f
 are_last f valid unit bsize shape tree d is fresh =
     let s = valid.stands in
     let same : d.shape ≡ shape_of f = fresh.shape_is ∙ is in
@@ -211,7 +211,7 @@ on_ok (Ok x) f p = f p
 on_ok (Err e) f p = tt
 
 -- a file that was put
-pub put_in : (v w : HeldVolume) (name : Name) (shape : DraftShape) (stamp : Stamp) (draft : FileDraft) → IsDraftFor v name shape stamp draft → LeadsToFile v draft w → IsPutIn v name shape w
+pub put_in : (v w : HeldVolume) (name : Name) (shape : DraftShape) (stamp : Stamp) (draft : Draft) → IsDraftFor v name shape stamp draft → LeadsToFile v draft w → IsPutIn v name shape w
 put_in v w name shape stamp draft p leads =
     let start = start_in draft.writer in
     let at = p.file start in
@@ -230,7 +230,7 @@ put_in v w name shape stamp draft p leads =
     }
 
 -- and one to which records were added
-pub more_in : (v w : HeldVolume) (name : Name) (f : HeldFile) (shape : DraftShape) (stamp : Stamp) (draft : FileDraft) → IsMoreFor v name f shape stamp draft → LeadsToFile v draft w
+pub more_in : (v w : HeldVolume) (name : Name) (f : HeldFile) (shape : DraftShape) (stamp : Stamp) (draft : Draft) → IsMoreFor v name f shape stamp draft → LeadsToFile v draft w
     → IsPutIn v name shape w
 more_in v w name f shape stamp draft p leads =
     let start = start_in draft.writer in

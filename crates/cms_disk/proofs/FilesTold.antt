@@ -9,14 +9,14 @@ use Rattle.cms_fields.specs.Limits.{longest_record, most_records}
 use Rattle.cms_fields.specs.declared.entry.Entry.{Entry}
 use Rattle.cms_model.proofs.FileSizes.{EntryFits, passing}
 use Rattle.cms_model.proofs.TreeFrame.{between}
-use Rattle.cms_records.specs.Pieces.{Begun}
+use Rattle.cms_records.specs.Pieces.{RecordState}
+use Rattle.cms_held.specs.HeldVolumes.{HeldFile, HeldVolume}
 use Rattle.cms_held.specs.Kept.{IsKeptFile, IsSized, Keeps}
-use Rattle.cms_held.specs.Opening.{HeldFile, HeldVolume}
-use Rattle.cms_edf.specs.Asking.{info_of}
+use Rattle.cms_edf.specs.FilesTold.{info_of}
 use Rattle.cms_edf.specs.declared.held.FileInfo.{FileInfo}
-use Rattle.cms_disk.specs.Cursors.{Reading}
+use Rattle.cms_disk.specs.Cursors.{Cursor}
 use Rattle.cms_disk.specs.Disks.{FirstIn, IsFileInfo}
-use Rattle.cms_disk.proofs.Finding.{kept_at}
+use Rattle.cms_disk.proofs.FilesFound.{kept_at}
 
 counted : (bsize : ℕ) (e : Entry) → EntryFits bsize e → (1 ≤ e.count) × (e.count ≤ most_records)
 unfolding counts_fit
@@ -45,5 +45,5 @@ told_sized bsize total (f ∷ fs) zero bytes each at =
 told_sized bsize total (f ∷ fs) (suc k) bytes each at = told_sized bsize total fs k bytes (All-tail (IsKeptFile bsize total) f fs each) at
 
 -- no record of a file is longer than a record may be
-pub first_short : (v : HeldVolume) (k : ℕ) (c : Reading) → Keeps v → FirstIn v k c → c.begun.longest ≤ longest_record
-first_short v k c keeps first = subst (λ (n : ℕ). n ≤ longest_record) (sym (ap (λ (b : Begun). b.longest) first.2.begun)) (kept_at v k first.0 keeps first.1).short
+pub first_short : (v : HeldVolume) (k : ℕ) (c : Cursor) → Keeps v → FirstIn v k c → c.begun.longest ≤ longest_record
+first_short v k c keeps first = subst (λ (n : ℕ). n ≤ longest_record) (sym (ap (λ (b : RecordState). b.longest) first.2.begun)) (kept_at v k first.0 keeps first.1).short

@@ -17,17 +17,17 @@ use Rattle.cms_model.specs.Changes.{file_named}
 use Rattle.cms_model.specs.declared.file.FileData.{FileData}
 use Rattle.cms_model.proofs.FileSizes.{passing}
 use Rattle.cms_model.proofs.TreeFrame.{between}
-use Rattle.cms_records.specs.Pieces.{Begun}
-use Rattle.cms_edf.specs.Asking.{info_of, infos_in}
+use Rattle.cms_records.specs.Pieces.{RecordState}
+use Rattle.cms_edf.specs.FilesTold.{info_of, infos_in}
+use Rattle.cms_held.specs.HeldVolumes.{HeldFile, HeldVolume}
 use Rattle.cms_held.specs.Kept.{Keeps}
-use Rattle.cms_held.specs.Opening.{HeldFile, HeldVolume}
 use Rattle.cms_edf.specs.declared.held.FileInfo.{FileInfo}
-use Rattle.cms_disk.specs.Cursors.{Reading, HasLeft, IsFirst, fixed_of}
+use Rattle.cms_disk.specs.Cursors.{Cursor, HasLeft, IsFirst, fixed_of}
 use Rattle.cms_disk.specs.Disks.{Accessed, FirstIn, StandsIn, place_of}
-use Rattle.cms_disk.specs.Getting.{Gathers, GetsFile, IsDataOf, data_length}
+use Rattle.cms_disk.specs.Gets.{Gathers, GetsFile, IsDataOf, data_length}
 use Rattle.cms_disk.specs.declared.fault.DiskFault.{DiskFault}
 use Rattle.cms_disk.specs.declared.fault.DiskFault.TheVariants.{Altered, Device, Memory, NotFound}
-use Rattle.cms_disk.proofs.Finding.{found, first_has, fixed_some, kept_at}
+use Rattle.cms_disk.proofs.FilesFound.{found, first_has, fixed_some, kept_at}
 
 longest_range : (size : ℕ) (rs : List (List ℕ)) → All (Fits V size) rs → 1 ≤ length rs → (1 ≤ longest rs) × (longest rs ≤ 65535)
 unfolding longest
@@ -74,13 +74,13 @@ info_at (f ∷ fs) zero info h a b = let one : info_of f ≡ info = cc a in let 
 info_at (f ∷ fs) (suc k) info h a b = info_at fs k info h a b
 
 -- what was read of the file at a place
-pub record Read (v : HeldVolume) (k : ℕ) (info : FileInfo) (c : Reading) (bytes : List ℕ) (most : ℕ) (rs : List (List ℕ)) : Type 0 where
+pub record Read (v : HeldVolume) (k : ℕ) (info : FileInfo) (c : Cursor) (bytes : List ℕ) (most : ℕ) (rs : List (List ℕ)) : Type 0 where
   pub keeps : Keeps v
   pub info_is : slice_get (infos_in v) k ≡ Some info
   pub first : FirstIn v k c
   pub gathers : Gathers info.format c bytes most rs
 
-pub data_stands : (v : HeldVolume) (k : ℕ) (info : FileInfo) (c : Reading) (bytes : List ℕ) (most : ℕ) (rs : List (List ℕ)) → Read v k info c bytes most rs → StandsFor (data_of info bytes most) rs
+pub data_stands : (v : HeldVolume) (k : ℕ) (info : FileInfo) (c : Cursor) (bytes : List ℕ) (most : ℕ) (rs : List (List ℕ)) → Read v k info c bytes most rs → StandsFor (data_of info bytes most) rs
 data_stands v k info c bytes most rs r =
     let h = r.first.0 in
     let is = info_at v.files k info h r.info_is r.first.1 in
@@ -93,7 +93,7 @@ data_stands v k info c bytes most rs r =
         let p = passing v.disk.bsize h.entry kept.entry in
         let count = g.count_is ∙ first.left in
         let some = counts_some v.disk.bsize h.entry p.fits.counts in
-        let high : c.begun.longest ≡ h.length = ap (λ (b : Begun). b.longest) first.begun in
+        let high : c.begun.longest ≡ h.length = ap (λ (b : RecordState). b.longest) first.begun in
         let each = subst (λ (n : ℕ). All (Fits h.entry.format n) rs) high g.each in
         let one : h.entry.format ≡ F → 1 ≤ h.length = λ fix. (let low = fixed_some v.disk.bsize h.entry p.fits.long fix in let same = kept.told in omega arith) in
         let l = lengths h.entry.format h.length most rs g.most_is each (omega arith) one kept.short in
@@ -113,7 +113,7 @@ length_same F size most rs a b = refl
 length_same V size most rs a b = b ∙ sym a
 
 -- they are those of the file of the name
-pub gets_ok : (image : Image) (name : Name) (d : Accessed) (m : Minidisk) (k : ℕ) (info : FileInfo) (c : Reading) (bytes : List ℕ) (most : ℕ) (rs : List (List ℕ)) → StandsIn image d m
+pub gets_ok : (image : Image) (name : Name) (d : Accessed) (m : Minidisk) (k : ℕ) (info : FileInfo) (c : Cursor) (bytes : List ℕ) (most : ℕ) (rs : List (List ℕ)) → StandsIn image d m
     → place_of name d.volume ≡ Some k
     → Read d.volume k info c bytes most rs → ((all : List (List ℕ)) → HasLeft image c all → all ≡ rs) → (f : File) × (file_named name m.files ≡ Some f) × IsDataOf f (data_of info bytes most)
 gets_ok image name d m k info c bytes most rs stands at r only =
@@ -138,7 +138,7 @@ gets_ok image name d m k info c bytes most rs stands at r only =
     )
 
 -- the bytes are never found altered
-pub gets_not_altered : (image : Image) (name : Name) (d : Accessed) (m : Minidisk) (k : ℕ) (c : Reading) → StandsIn image d m → place_of name d.volume ≡ Some k → Keeps d.volume → FirstIn d.volume k c
+pub gets_not_altered : (image : Image) (name : Name) (d : Accessed) (m : Minidisk) (k : ℕ) (c : Cursor) → StandsIn image d m → place_of name d.volume ≡ Some k → Keeps d.volume → FirstIn d.volume k c
     → ((all : List (List ℕ)) → HasLeft image c all → ⊥) → ⊥
 gets_not_altered image name d m k c stands at keeps first none =
     let h = first.0 in
@@ -161,12 +161,12 @@ gets_starved name m e is = subst (λ (x : DiskFault). GetsFile name m (Err x)) (
 pub gets_none : (name : Name) (m : Minidisk) (e : DiskFault) → e ≡ NotFound → file_named name m.files ≡ None → GetsFile name m (Err e)
 gets_none name m e is none = subst (λ (x : DiskFault). GetsFile name m (Err x)) (sym is) none
 
-pub fixed_is : (v : HeldVolume) (k : ℕ) (info : FileInfo) (c : Reading) → slice_get (infos_in v) k ≡ Some info → FirstIn v k c → c.begun.fixed ≡ fixed_of info.format c.begun.longest
+pub fixed_is : (v : HeldVolume) (k : ℕ) (info : FileInfo) (c : Cursor) → slice_get (infos_in v) k ≡ Some info → FirstIn v k c → c.begun.fixed ≡ fixed_of info.format c.begun.longest
 fixed_is v k info c at first =
     let h = first.0 in
     let is = info_at v.files k info h at first.1 in
     let format : h.entry.format ≡ info.format = ap (λ (i : FileInfo). i.format) (sym is) in
-    ap (λ (b : Begun). b.fixed) first.2.begun ∙ (ap (λ (f : Format). fixed_of f h.length) format ∙ ap (fixed_of info.format) (sym (ap (λ (b : Begun). b.longest) first.2.begun)))
+    ap (λ (b : RecordState). b.fixed) first.2.begun ∙ (ap (λ (f : Format). fixed_of f h.length) format ∙ ap (fixed_of info.format) (sym (ap (λ (b : RecordState). b.longest) first.2.begun)))
 
 -- where all have one length, it is the one given
 pub fixed_length : (format : Format) (size most : ℕ) → format ≡ F → data_length format size most ≡ size

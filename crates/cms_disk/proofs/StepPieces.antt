@@ -33,14 +33,14 @@ use Rattle.cms_tree.specs.Climbs.{AreOwn}
 use Rattle.cms_tree.proofs.Own.{writes_append}
 use Rattle.cms_machine.specs.Beats.{AreStamped, HasStamp, IsStamped, written_count}
 use Rattle.cms_machine.specs.Slots.{IsAmong}
-use Rattle.cms_held.specs.Carrying as held
-use Rattle.cms_held.specs.LawsRenewing.{AreBlocks}
+use Rattle.cms_held.specs.LawsRenewals.{AreBlocks}
+use Rattle.cms_held.specs.MinidiskUpdates as held
 use Rattle.cms_held.specs.Systems.{Systems, block_writes, directory_bytes_of, system_entry}
 use Rattle.cms_held.proofs.WritesAside.{IsAside}
-use Rattle.cms_disk.specs.Changing.{HasState, IsWholeAt}
-use Rattle.cms_disk.specs.Leaving.{CoversOn}
-use Rattle.cms_disk.specs.Making.{GrownOf}
-use Rattle.cms_disk.proofs.Leaving.{leaves_state}
+use Rattle.cms_disk.specs.Changes.{HasState, IsWholeAt}
+use Rattle.cms_disk.specs.CrashStates.{CoversOn}
+use Rattle.cms_disk.specs.EmptyMinidisks.{GrownOf}
+use Rattle.cms_disk.proofs.CrashStates.{leaves_state}
 
 -- ---- the journal then
 

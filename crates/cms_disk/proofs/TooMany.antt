@@ -11,22 +11,22 @@ use Rattle.cms_model.specs.LawsUpdates.{now}
 use Rattle.cms_model.specs.Minidisks.{Minidisk}
 use Rattle.cms_model.specs.Records.{StandsFor}
 use Rattle.cms_model.specs.declared.file.FileData.{FileData}
+use Rattle.cms_held.specs.HeldVolumes.{HeldVolume}
 use Rattle.cms_held.specs.Kept.{Keeps}
-use Rattle.cms_held.specs.Opening.{HeldVolume}
-use Rattle.cms_held.specs.Putting.{limit_put}
+use Rattle.cms_held.specs.Puts.{limit_put}
 use Rattle.cms_draft.specs.declared.shape.DraftShape.{DraftShape}
-use Rattle.cms_edf.specs.Asking.{info_of, infos_in}
-use Rattle.cms_edf.specs.Growing.{IsFileOf}
-use Rattle.cms_edf.specs.declared.growing.MoreFault.TheVariants as refused
+use Rattle.cms_edf.specs.FilesTold.{info_of, infos_in}
+use Rattle.cms_edf.specs.Growths.{IsFileOf}
+use Rattle.cms_edf.specs.declared.growth.MoreFault.TheVariants as refused
 use Rattle.cms_edf.specs.declared.held.FileInfo.{FileInfo}
 use Rattle.cms_edf.proofs.Planned.{named_at as named_in}
 use Rattle.cms_disk.specs.Additions.{FitsFile, IsAddFault, shape_with}
-use Rattle.cms_disk.specs.Changing.{ChangesDisk}
+use Rattle.cms_disk.specs.Changes.{ChangesDisk}
 use Rattle.cms_disk.specs.Disks.{Accessed, IsMinidisk, IsReadable, place_of}
 use Rattle.cms_disk.specs.declared.fault.DiskFault.TheVariants as failed
-use Rattle.cms_disk.proofs.AddAnswering.{added_to, more_answered}
-use Rattle.cms_disk.proofs.Extending.{found_in, has_behind, told_of}
-use Rattle.cms_disk.proofs.Standing.{named_at}
+use Rattle.cms_disk.proofs.AddAnswered.{added_to, more_answered}
+use Rattle.cms_disk.proofs.DisksTold.{named_at}
+use Rattle.cms_disk.proofs.MoreDrafts.{found_in, has_behind, told_of}
 
 -- with them the file of the name, which stands at this place, has more than that
 abbrev pub AreTooMany : HeldVolume → ℕ → FileData → Type 0

@@ -10,17 +10,17 @@ use Rattle.cms_model.specs.Records.{Fits}
 use Rattle.cms_model.specs.Changes.{Add, answer_of, changed, file_named}
 use Rattle.cms_model.specs.declared.file.FileData.{FileData}
 use Rattle.cms_map.specs.Bits.{free_blocks}
-use Rattle.cms_held.specs.Growing.{length_with}
-use Rattle.cms_held.specs.Opening.{HeldFile, HeldVolume}
-use Rattle.cms_held.specs.Putting.{limit_put}
-use Rattle.cms_draft.specs.BlockWriting.{came}
-use Rattle.cms_draft.specs.Drafting.{Drafting}
+use Rattle.cms_held.specs.Growths.{length_with}
+use Rattle.cms_held.specs.HeldVolumes.{HeldFile, HeldVolume}
+use Rattle.cms_held.specs.Puts.{limit_put}
+use Rattle.cms_draft.specs.BlockWriters.{came}
+use Rattle.cms_draft.specs.FileWriters.{FileWriter}
 use Rattle.cms_draft.specs.declared.shape.DraftShape.{DraftShape}
-use Rattle.cms_edf.specs.Asking.{infos_in, stored_in}
-use Rattle.cms_edf.specs.FileDrafts.{CanDraft, FileDraft}
-use Rattle.cms_edf.specs.Growing.{IsFileOf, IsMoreRefused, need_more}
-use Rattle.cms_edf.specs.declared.growing.MoreFault.{MoreFault}
-use Rattle.cms_edf.specs.declared.growing.MoreFault.TheVariants as refused
+use Rattle.cms_edf.specs.FileDrafts.{CanDraft, Draft}
+use Rattle.cms_edf.specs.FilesTold.{infos_in, stored_in}
+use Rattle.cms_edf.specs.Growths.{IsFileOf, IsMoreRefused, need_more}
+use Rattle.cms_edf.specs.declared.growth.MoreFault.{MoreFault}
+use Rattle.cms_edf.specs.declared.growth.MoreFault.TheVariants as refused
 use Rattle.cms_edf.specs.declared.held.FileInfo.{FileInfo}
 use Rattle.cms_disk.specs.Disks.{Accessed, IsMinidisk, IsReadable, place_of}
 use Rattle.cms_disk.specs.Drafts.{GoesOn, HaveCounts, IsAnsweredBy}
@@ -53,14 +53,14 @@ MayExtend v name shape = (info : FileInfo) (bytes : ℕ) → IsTold v name info 
 -- ---- the draft
 
 -- a draft of this shape stands behind the records of a file of which this is told: they count as put
-pub record StandsBehind (info : FileInfo) (bytes : ℕ) (shape : DraftShape) (d : Drafting) : Type 0 where
+pub record StandsBehind (info : FileInfo) (bytes : ℕ) (shape : DraftShape) (d : FileWriter) : Type 0 where
   pub shape_is : d.shape ≡ shape
   pub put : d.put ≡ info.count
   pub came_is : came d.writer ≡ bytes
   pub size_is : d.writer.size ≡ shape.bytes
 
 -- so does the draft of the file of a name
-abbrev pub IsBehindFile : HeldVolume → Name → DraftShape → FileDraft → Type 0
+abbrev pub IsBehindFile : HeldVolume → Name → DraftShape → Draft → Type 0
 IsBehindFile v name shape draft = (info : FileInfo) (bytes : ℕ) → IsTold v name info bytes
     → StandsBehind info bytes shape draft.writer
 
@@ -100,7 +100,7 @@ pub record HaveShapeBehind (file : File) (shape : DraftShape) (more : List (List
   pub long : length_with shape.format file.length more ≡ shape.length
 
 -- a draft of this shape begins for the change that adds them
-abbrev pub BeginsMore : Told → Told → Accessed → Accessed → Name → DraftShape → Stamp → FileDraft → Type 0
+abbrev pub BeginsMore : Told → Told → Accessed → Accessed → Name → DraftShape → Stamp → Draft → Type 0
 BeginsMore old new d e name shape stamp draft =
     (j : Journal) (m : Minidisk) (file : File) (more : List (List ℕ)) → old ≡ Some j → IsMinidisk j d m
     → file_named name m.files ≡ Some file → HaveShapeBehind file shape more

@@ -1,10 +1,10 @@
 -- What the fields of a cursor are.
 use Rattle.std.specs.Prelude.{◌≡◌}
-use Rattle.cms_disk.specs.Cursors.{Reading, IsReading}
+use Rattle.cms_disk.specs.Cursors.{Cursor, IsReading}
 use Rattle.cms_disk.specs.declared.cursor.Cursor.TheInside.{Inside}
 
 -- how far the file was read
-abbrev pub reading_of : Inside → Reading
+abbrev pub reading_of : Inside → Cursor
 reading_of c = record {
   unit = c.unit.number;
   total = c.unit.blocks;

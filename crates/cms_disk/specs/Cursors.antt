@@ -6,14 +6,14 @@ use Rattle.cms_names.specs.declared.name.Format.TheVariants.{F, V}
 use Rattle.cms_model.specs.Lists.{cut}
 use Rattle.cms_model.specs.Records.{varying, longest}
 use Rattle.cms_model.specs.Trees.{Image, bytes_at}
-use Rattle.cms_records.specs.Pieces.{Begun, bytes_so_far, next_place, record_size, is_whole, text_in}
+use Rattle.cms_records.specs.Pieces.{RecordState, bytes_so_far, next_place, record_size, is_whole, text_in}
 use Rattle.cms_disk.specs.declared.fault.DiskFault.{DiskFault}
 use Rattle.cms_disk.specs.declared.fault.DiskFault.TheVariants as failed
 
 -- how far a file was read: its unit, with so many blocks of a size; the file's data blocks, how many of them were read or passed over,
 -- the bytes of the one that was read last, how many of these were taken, and how many bytes of the next one are passed over; how many
 -- records are left to hand out, the record that is begun or was handed out last, and whether the bytes turned out to be no records
-pub record Reading : Type 0 where
+pub record Cursor : Type 0 where
   pub unit : ℕ
   pub total : ℕ
   pub bsize : ℕ
@@ -23,18 +23,18 @@ pub record Reading : Type 0 where
   pub from : ℕ
   pub over : ℕ
   pub left : ℕ
-  pub begun : Begun
+  pub begun : RecordState
   pub altered : Bool
 
 -- ---- what is held in memory
 
 -- besides the list of blocks one block is held, and of one record, no longer than the longest, its bytes and the two of its length
-pub record HoldsLittle (c : Reading) : Type 0 where
+pub record HoldsLittle (c : Cursor) : Type 0 where
   pub block : length c.block ≡ c.bsize
   pub begun : length c.begun.bytes ≤ c.begun.longest + 2
 
 -- records of one length have at least one byte, and none is above the longest
-pub record HasLengths (s : Begun) : Type 0 where
+pub record HasLengths (s : RecordState) : Type 0 where
   pub fixed : IfSome s.fixed (λ n. (1 ≤ n) × (n ≤ s.longest))
   pub short : s.longest ≤ longest_record
 
@@ -43,11 +43,11 @@ abbrev pub AreOn : ℕ → List ℕ → Type 0
 AreOn total leaves = (k : ℕ) → k < length leaves → (1 ≤ slice_index leaves k) × (slice_index leaves k ≤ total)
 
 -- what was taken lies in the blocks that were read
-abbrev pub IsWithin : Reading → Type 0
+abbrev pub IsWithin : Cursor → Type 0
 IsWithin c = c.altered ≡ false → c.begun.place + length c.begun.bytes + c.bsize ≤ c.done * c.bsize + c.from
 
 -- what always holds
-pub record IsReading (c : Reading) : Type 0 where
+pub record IsReading (c : Cursor) : Type 0 where
   pub held : HoldsLittle c
   pub lengths : HasLengths c.begun
   pub leaves : AreOn c.total c.leaves
@@ -66,7 +66,7 @@ HoldLeft bsize (Some size) most left place bytes records = (records ≡ cut left
 HoldLeft bsize None most left place bytes records = (varying bsize left place bytes ≡ Ok records) × (longest records ≤ most)
 
 -- the bytes of the file that aren't handed out or passed over, in an image of its unit
-abbrev pub unread : Image → Reading → List ℕ
+abbrev pub unread : Image → Cursor → List ℕ
 unread image c = bytes_so_far c.begun ++ (drop c.from c.block ++ drop c.over (bytes_at image (drop c.done c.leaves)))
 
 -- each of these blocks has this size in an image
@@ -74,18 +74,18 @@ abbrev pub AreSized : Image → ℕ → List ℕ → Type 0
 AreSized image bsize leaves = (k : ℕ) → k < length leaves → length (image (slice_index leaves k)) ≡ bsize
 
 -- these records are left to hand out, where the unit has this image
-pub record HasLeft (image : Image) (c : Reading) (records : List (List ℕ)) : Type 0 where
+pub record HasLeft (image : Image) (c : Cursor) (records : List (List ℕ)) : Type 0 where
   pub sound : c.altered ≡ false
   pub sizes : AreSized image c.bsize c.leaves
   pub held : HoldLeft c.bsize c.begun.fixed c.begun.longest c.left (next_place c.begun) (unread image c) records
 
 -- the record that was handed out last
-abbrev pub text_of : Reading → List ℕ
+abbrev pub text_of : Cursor → List ℕ
 text_of c = text_in c.begun.fixed c.begun.bytes
 
 -- what the next read makes of the records that are left: it hands out the first of them, says that there is none, or leaves
 -- them as they are; they are never found altered
-abbrev pub HandsOut : Image → Reading → List (List ℕ) → Result Bool DiskFault → Type 0
+abbrev pub HandsOut : Image → Cursor → List (List ℕ) → Result Bool DiskFault → Type 0
 HandsOut image c records (Ok true) = (more : List (List ℕ)) × (records ≡ text_of c ∷ more) × HasLeft image c more
 HandsOut image c records (Ok false) = (records ≡ []) × HasLeft image c records
 HandsOut image c records (Err failed.Device) = HasLeft image c records
@@ -101,7 +101,7 @@ HandsOut image c records (Err failed.Memory) = ⊥
 -- ---- steps of a read
 
 -- it is the same file
-pub record SameFile (old new : Reading) : Type 0 where
+pub record SameFile (old new : Cursor) : Type 0 where
   pub unit : new.unit ≡ old.unit
   pub total : new.total ≡ old.total
   pub bsize : new.bsize ≡ old.bsize
@@ -110,34 +110,34 @@ pub record SameFile (old new : Reading) : Type 0 where
   pub longest : new.begun.longest ≡ old.begun.longest
 
 -- no block was read, or bytes of the one that was read last were taken for the record, behind those that were passed over
-abbrev pub IsNeeded : Reading → Reading → Type 0
+abbrev pub IsNeeded : Cursor → Cursor → Type 0
 IsNeeded old new = (new.done ≡ old.done) ⊎ ((1 ≤ new.from) × (new.done ≡ old.done + 1 → old.over < new.from))
 
 -- more bytes belong to the record that is begun
-pub record IsShort (s : Begun) : Type 0 where
+pub record IsShort (s : RecordState) : Type 0 where
   pub size : Option ℕ
   pub size_is : record_size s.fixed s.longest s.place s.bytes ≡ Ok size
   pub short : is_whole size s.bytes ≡ false
   pub begun : s.whole ≡ false
 
 -- and all bytes that were read are taken
-abbrev pub Waits : Reading → Type 0
+abbrev pub Waits : Cursor → Type 0
 Waits c = IsShort c.begun × (c.from ≡ c.bsize)
 
 -- what taking bytes makes of the records that are left: the first of them is whole, or they stay
-abbrev pub Gives : Image → Reading → List (List ℕ) → Bool → Type 0
+abbrev pub Gives : Image → Cursor → List (List ℕ) → Bool → Type 0
 Gives image c records true = (more : List (List ℕ)) × (records ≡ text_of c ∷ more) × HasLeft image (record c { left = c.left - 1 }) more
 Gives image c records false = HasLeft image c records
 
 -- a record has at least one byte and no more than the longest, and where all have one length, that
-pub record TextFits (c : Reading) : Type 0 where
+pub record TextFits (c : Cursor) : Type 0 where
   pub some : 1 ≤ length (text_of c)
   pub short : length (text_of c) ≤ c.begun.longest
   pub fixed : IfSome c.begun.fixed (λ n. length (text_of c) ≡ n)
 
 -- a read failed of a record that is begun: as many are left, and all bytes that were read are taken, so that the next read begins with
 -- the block that failed
-pub record WaitsFor (old new : Reading) : Type 0 where
+pub record WaitsFor (old new : Cursor) : Type 0 where
   pub left : new.left ≡ old.left
   pub sound : new.altered ≡ old.altered
   pub waits : Waits new
@@ -151,11 +151,11 @@ fixed_of F size = Some size
 fixed_of V size = None
 
 -- before the first byte of records
-abbrev pub first_begun : Format → ℕ → Begun
+abbrev pub first_begun : Format → ℕ → RecordState
 first_begun format size = record { fixed = fixed_of format size; longest = size; place = 0; bytes = []; whole = false }
 
 -- no block was read yet of these, on a unit with so many of a size, and no record of so many
-pub record IsFirst (number most size : ℕ) (blocks : List ℕ) (format : Format) (high count : ℕ) (c : Reading) : Type 0 where
+pub record IsFirst (number most size : ℕ) (blocks : List ℕ) (format : Format) (high count : ℕ) (c : Cursor) : Type 0 where
   pub unit : c.unit ≡ number
   pub total : c.total ≡ most
   pub bsize : c.bsize ≡ size
@@ -169,7 +169,7 @@ pub record IsFirst (number most size : ℕ) (blocks : List ℕ) (format : Format
   pub held : HoldsLittle c
 
 -- nothing was read or passed over yet, and all records have one length
-pub record IsUnread (c : Reading) : Type 0 where
+pub record IsUnread (c : Cursor) : Type 0 where
   pub done : c.done ≡ 0
   pub all : c.from ≡ c.bsize
   pub over : c.over ≡ 0

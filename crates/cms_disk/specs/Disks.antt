@@ -16,12 +16,12 @@ use Rattle.cms_model.specs.LawsSizes.{IsWhole}
 use Rattle.cms_model.specs.LawsUpdates.{now}
 use Rattle.cms_model.specs.declared.fault.OpenFault.{OpenFault}
 use Rattle.cms_model.specs.declared.fault.OpenFault.TheVariants as failed
-use Rattle.cms_held.specs.Opening.{HeldFile, HeldVolume, IsFaultOf, held_of, names_in}
+use Rattle.cms_held.specs.HeldVolumes.{HeldFile, HeldVolume, IsFaultOf, held_of, names_in}
 use Rattle.cms_held.specs.HeldAs.{IsHeldAs}
 use Rattle.cms_held.specs.HeldTrees.{TreesStand}
 use Rattle.cms_edf.specs.declared.held.FileInfo.{FileInfo}
-use Rattle.cms_disk.specs.Cursors.{Reading, IsFirst, HasLeft}
-use Rattle.cms_disk.specs.Leaving.{LooksAs}
+use Rattle.cms_disk.specs.CrashStates.{LooksAs}
+use Rattle.cms_disk.specs.Cursors.{Cursor, IsFirst, HasLeft}
 use Rattle.cms_disk.specs.declared.fault.AccessFault.{AccessFault}
 use Rattle.cms_disk.specs.declared.fault.AccessFault.TheVariants.{Sync, Open}
 use Rattle.cms_disk.specs.declared.unit.UnitInfo.{UnitInfo}
@@ -147,12 +147,12 @@ abbrev pub IsOthers : Name → Name → HeldVolume → Type 0
 IsOthers from to v = (from ≡ to → ⊥) × IsSome (place_of to v)
 
 -- the file at a place is read from its first record on
-abbrev pub FirstIn : HeldVolume → ℕ → Reading → Type 0
+abbrev pub FirstIn : HeldVolume → ℕ → Cursor → Type 0
 FirstIn v place c = (file : HeldFile) × (slice_get v.files place ≡ Some file)
     × IsFirst v.unit v.disk.count v.disk.bsize file.tree.leaves file.entry.format file.length file.entry.count c
 
 -- the file of a name is read from its first record on
-pub record StartsAt (name : Name) (v : HeldVolume) (c : Reading) : Type 0 where
+pub record StartsAt (name : Name) (v : HeldVolume) (c : Cursor) : Type 0 where
   pub place : ℕ
   pub place_is : place_of name v ≡ Some place
   pub file : HeldFile
@@ -160,12 +160,12 @@ pub record StartsAt (name : Name) (v : HeldVolume) (c : Reading) : Type 0 where
   pub first : IsFirst v.unit v.disk.count v.disk.bsize file.tree.leaves file.entry.format file.length file.entry.count c
 
 -- all records of the file of a name are left to read, in this image
-abbrev pub OpensFile : Image → Name → Minidisk → Reading → Type 0
+abbrev pub OpensFile : Image → Name → Minidisk → Cursor → Type 0
 OpensFile image name m c = (f : File) × (file_named name m.files ≡ Some f) × HasLeft image c f.records
 
 -- the cursor stands before the file of this name, in each image of which the disk holds the
 -- minidisk
-abbrev pub OpensIn : Accessed → Name → Reading → Type 0
+abbrev pub OpensIn : Accessed → Name → Cursor → Type 0
 OpensIn d name c = (image : Image) (m : Minidisk) → StandsIn image d m → OpensFile image name m c
 
 -- no file has this name

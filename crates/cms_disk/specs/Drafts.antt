@@ -15,16 +15,16 @@ use Rattle.cms_model.specs.Volumes.{Disk}
 use Rattle.cms_map.specs.Bits.{free_blocks}
 use Rattle.cms_machine.specs.Beats.{AreStamped, written_count}
 use Rattle.cms_held.specs.Drafts.{Front, no_front}
-use Rattle.cms_held.specs.Growing.{length_with}
-use Rattle.cms_held.specs.Opening.{HeldFile}
-use Rattle.cms_held.specs.Putting.{count_put, limit_put, need_put}
-use Rattle.cms_draft.specs.BlockWriting.{IsSame, came}
-use Rattle.cms_draft.specs.Drafting.{Drafting, Drafts, HaveShape}
+use Rattle.cms_held.specs.Growths.{length_with}
+use Rattle.cms_held.specs.HeldVolumes.{HeldFile}
+use Rattle.cms_held.specs.Puts.{count_put, limit_put, need_put}
+use Rattle.cms_draft.specs.BlockWriters.{IsSame, came}
+use Rattle.cms_draft.specs.FileWriters.{FileWriter, Drafts, HaveShape}
 use Rattle.cms_draft.specs.declared.shape.DraftShape.{DraftShape}
-use Rattle.cms_edf.specs.FileDrafts.{DraftStands, FileDraft, IsDraftFor, put_writes, tree_of}
-use Rattle.cms_edf.specs.Growing.{IsFrontOf, IsMoreFor}
+use Rattle.cms_edf.specs.FileDrafts.{DraftStands, Draft, IsDraftFor, put_writes, tree_of}
+use Rattle.cms_edf.specs.Growths.{IsFrontOf, IsMoreFor}
+use Rattle.cms_disk.specs.CrashStates.{CoversOn}
 use Rattle.cms_disk.specs.Disks.{Accessed, IsMinidisk, IsReadable}
-use Rattle.cms_disk.specs.Leaving.{CoversOn}
 use Rattle.cms_disk.specs.declared.fault.DiskFault.{DiskFault}
 use Rattle.cms_disk.specs.declared.fault.DiskFault.TheVariants as failed
 
@@ -61,7 +61,7 @@ file_with name shape records = record {
 }
 
 -- a draft is of this file, which takes the place of the one of its name, or stands last: with these records it is the file
-pub record IsToPut (d : Accessed) (draft : FileDraft) (new : File) (stamp : Stamp) (front : Front) (records : List (List ℕ)) :
+pub record IsToPut (d : Accessed) (draft : Draft) (new : File) (stamp : Stamp) (front : Front) (records : List (List ℕ)) :
     Type 0 where
   pub shape : DraftShape
   pub planned : IsDraftFor d.volume new.name shape stamp draft
@@ -70,7 +70,7 @@ pub record IsToPut (d : Accessed) (draft : FileDraft) (new : File) (stamp : Stam
   pub long : length_of shape.format shape.length records ≡ shape.length
 
 -- a draft adds these records, with this stamp, to the file of a name; what comes in front of them is what the unit has of it
-pub record IsToAdd (j : Journal) (d : Accessed) (draft : FileDraft) (name : Name) (added stamp : Stamp) (front : Front)
+pub record IsToAdd (j : Journal) (d : Accessed) (draft : Draft) (name : Name) (added stamp : Stamp) (front : Front)
     (records : List (List ℕ)) :
     Type 0 where
   pub file : HeldFile
@@ -81,7 +81,7 @@ pub record IsToAdd (j : Journal) (d : Accessed) (draft : FileDraft) (name : Name
   pub long : length_with shape.format file.length records ≡ shape.length
 
 -- with these records a draft is for the change, with this stamp of the directory
-abbrev pub IsFor : Journal → Accessed → FileDraft → Change → Stamp → Front → List (List ℕ) → Type 0
+abbrev pub IsFor : Journal → Accessed → Draft → Change → Stamp → Front → List (List ℕ) → Type 0
 IsFor j d draft (Put new) stamp front records = IsToPut d draft new stamp front records
 IsFor j d draft (Add name more added) stamp front records = (more ≡ records) × IsToAdd j d draft name added stamp front records
 IsFor j d draft (Drop name) stamp front records = ⊥
@@ -91,7 +91,7 @@ IsFor j d draft (Century pivot) stamp front records = ⊥
 
 -- a draft goes on for a change: the minidisk stands, from the start on only the draft was written, of its records the first were put and
 -- the others are to come, and what was written of it stands; each of its blocks was written once, no more of them than the change needs
-pub record GoesOn (start now : Told) (d : Accessed) (m : Minidisk) (draft : FileDraft) (change : Change) (stamp : Stamp)
+pub record GoesOn (start now : Told) (d : Accessed) (m : Minidisk) (draft : Draft) (change : Change) (stamp : Stamp)
     (done more : List (List ℕ)) :
     Type 0 where
   pub stands : Stands now d m
@@ -112,19 +112,19 @@ pub record IsGivenUp (start now : Told) (d : Accessed) (m : Minidisk) (change : 
 -- ---- the draft
 
 -- it is the draft of the same file
-pub record IsSameDraft (old new : FileDraft) : Type 0 where
+pub record IsSameDraft (old new : Draft) : Type 0 where
   pub entry : new.entry ≡ old.entry
   pub systems : new.systems ≡ old.systems
   pub shape : new.writer.shape ≡ old.writer.shape
   pub writer : IsSame old.writer.writer new.writer.writer
 
 -- it has as many records and bytes as it is to have
-pub record IsFull (d : Drafting) : Type 0 where
+pub record IsFull (d : FileWriter) : Type 0 where
   pub records : d.put ≡ d.shape.count
   pub bytes : came d.writer ≡ d.writer.size
 
 -- a record was put
-pub record HasMore (old new : Drafting) (text : List ℕ) : Type 0 where
+pub record HasMore (old new : FileWriter) (text : List ℕ) : Type 0 where
   pub records : new.put ≡ old.put + 1
   pub bytes : came new.writer ≡ came old.writer + length (stored old.shape.format (text ∷ []))
 
@@ -169,14 +169,14 @@ AnswersDraft d name shape result =
     → IsAnsweredBy (answer_of m (Put (file_with name shape records))) (changed m (Put (file_with name shape records))) result
 
 -- a draft of such a file begins for the change that puts it, wherever the minidisk stands
-abbrev pub BeginsPut : Accessed → Accessed → Name → DraftShape → Stamp → FileDraft → Type 0
+abbrev pub BeginsPut : Accessed → Accessed → Name → DraftShape → Stamp → Draft → Type 0
 BeginsPut d e name shape stamp draft =
     (j : Journal) (m : Minidisk) (records : List (List ℕ)) → IsMinidisk j d m → IsReadable j d
     → HaveShape shape records → length_of shape.format shape.length records ≡ shape.length
     → GoesOn (Some j) (Some j) e m draft (Put (file_with name shape records)) stamp [] records
 
 -- what putting a record comes to: the draft goes on, or it is given up
-abbrev pub PutsRecord : Told → Told → Accessed → Minidisk → FileDraft → Change → Stamp → List (List ℕ) → List (List ℕ)
+abbrev pub PutsRecord : Told → Told → Accessed → Minidisk → Draft → Change → Stamp → List (List ℕ) → List (List ℕ)
     → Result ⊤ DiskFault → Type 0
 PutsRecord start now d m draft change stamp done more (Ok x) = GoesOn start now d m draft change stamp done more
 PutsRecord start now d m draft change stamp done more (Err e) = IsGivenUp start now d m change
@@ -195,7 +195,7 @@ shape_of f = record {
 }
 
 -- the records of a file are the last of a draft
-pub record AreLast (d : Drafting) (f : FileData) : Type 0 where
+pub record AreLast (d : FileWriter) (f : FileData) : Type 0 where
   pub format : f.format ≡ d.shape.format
   pub fixed : d.shape.format ≡ F → f.length ≡ d.shape.length
   pub count : d.put + f.count ≡ d.shape.count

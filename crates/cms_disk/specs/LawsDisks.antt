@@ -12,8 +12,8 @@ use Rattle.cms_model.specs.LawsUpdates.{after, now}
 use Rattle.cms_model.specs.declared.fault.OpenFault.{OpenFault}
 use Rattle.cms_machine.specs.Beats.{Covers}
 use Rattle.cms_held.specs.LawsHeld.{IsFound, IsMinidiskOf}
+use Rattle.cms_disk.specs.CrashStates.{CoversOn, LooksAs}
 use Rattle.cms_disk.specs.Disks.{Accessed, StandsIn, IsQuiet, place_of}
-use Rattle.cms_disk.specs.Leaving.{CoversOn, LooksAs}
 
 -- its files are the minidisk's, in their order, and a name is found in the place of its file
 pub record Tells (image : Image) (d : Accessed) (m : Minidisk) : Type 0 where

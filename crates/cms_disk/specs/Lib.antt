@@ -1,10 +1,10 @@
 pub mod Cursors
 pub mod CursorFields
-pub mod Leaving
+pub mod CrashStates
 pub mod Disks
-pub mod Getting
+pub mod Gets
 pub mod LawsDisks
-pub mod Changing
-pub mod Making
+pub mod Changes
+pub mod EmptyMinidisks
 pub mod Drafts
 pub mod Additions

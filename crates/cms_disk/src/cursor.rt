@@ -37,9 +37,9 @@ pub struct Cursor {
 }
 
 impl Model for Cursor {
-    ghost use Rattle.cms_disk.specs.Cursors.{Reading};
+    ghost use Rattle.cms_disk.specs.Cursors as cursors;
 
-    ghost Value = { Reading };
+    ghost Value = { cursors.Cursor };
 
     ghost use Rattle.cms_disk.specs.CursorFields.{reading_of, AreSound};
 

@@ -48,7 +48,7 @@ impl From<AllocError> for DiskFault {
 
 impl From<PlanFault> for DiskFault {
     ghost use Rattle.std.specs.Prelude.{◌≡◌};
-    ghost use Rattle.cms_disk.specs.Changing.{refusal_of};
+    ghost use Rattle.cms_disk.specs.Changes.{refusal_of};
 
     ghost from_gives = { λ why e. e ≡ refusal_of why };
 
@@ -63,7 +63,7 @@ impl From<PlanFault> for DiskFault {
 
 impl From<MoreFault> for DiskFault {
     ghost use Rattle.std.specs.Prelude.{◌≡◌};
-    ghost use Rattle.cms_disk.specs.Changing.{more_refusal_of};
+    ghost use Rattle.cms_disk.specs.Changes.{more_refusal_of};
 
     ghost from_gives = { λ why e. e ≡ more_refusal_of why };
 
@@ -79,7 +79,7 @@ impl From<MoreFault> for DiskFault {
 
 impl From<Doubt> for DiskFault {
     ghost use Rattle.std.specs.Prelude.{◌≡◌};
-    ghost use Rattle.cms_disk.specs.Changing.{fault_of};
+    ghost use Rattle.cms_disk.specs.Changes.{fault_of};
 
     ghost from_gives = { λ why e. e ≡ fault_of why };
 

@@ -9,7 +9,7 @@ ghost use Rattle.cms_model.specs.Trees.{image_of};
 ghost use Rattle.cms_edf.specs.OpeningSteps.{OfImage};
 ghost use Rattle.cms_disk.specs.Cursors.{HasLeft, fixed_of};
 ghost use Rattle.cms_disk.specs.Disks.{IsReadable, place_of};
-ghost use Rattle.cms_disk.specs.Getting.{Gathers, GetsIn, IsLike, data_length};
+ghost use Rattle.cms_disk.specs.Gets.{Gathers, GetsIn, IsLike, data_length};
 ghost use Rattle.cms_disk.specs.declared.fault.DiskFault.TheVariants.{Altered, Device, Memory, NotFound};
 ghost use Rattle.cms_world.specs.Seen.{OnlyReads, seen};
 

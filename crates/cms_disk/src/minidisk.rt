@@ -9,7 +9,7 @@ ghost use Rattle.cms_model.specs.LawsSizes.{IsWhole};
 ghost use Rattle.cms_model.specs.LawsUpdates.{now};
 ghost use Rattle.cms_model.specs.Trees.{image_of};
 ghost use Rattle.cms_model.specs.declared.fault.OpenFault.TheVariants as failed;
-ghost use Rattle.cms_edf.specs.Asking.{infos_in, space_of, stored_in};
+ghost use Rattle.cms_edf.specs.FilesTold.{infos_in, space_of, stored_in};
 ghost use Rattle.cms_held.specs.Kept.{IsSized, Keeps};
 ghost use Rattle.cms_edf.specs.OpeningSteps.{OfImage};
 ghost use Rattle.cms_disk.specs.Disks.{AnswersAccess, FirstIn, HasNone, HasStored, IsDevices, IsFileInfo, IsLeft, IsOn, IsQuiet, OpensIn, StartsAt, disk_on, place_of, synced, told_with};

@@ -2,9 +2,9 @@
 use Rattle.std.proofs.Common.{◌≡◌, sym, subst}
 use Rattle.cms_fields.specs.declared.time.Stamp.{Stamp}
 use Rattle.cms_model.specs.Changes.{Change}
-use Rattle.cms_held.specs.Opening.{HeldVolume}
-use Rattle.cms_edf.specs.Finishing.{IsPlan}
-use Rattle.cms_edf.specs.Planning.{IsPlanFor}
+use Rattle.cms_held.specs.HeldVolumes.{HeldVolume}
+use Rattle.cms_edf.specs.ChangePlans.{IsPlanFor}
+use Rattle.cms_edf.specs.Updates.{IsPlan}
 use Rattle.cms_edf.specs.declared.step.Step.{Step}
 
 pub still : (v w : HeldVolume) (change : Change) (stamp : Stamp) (s : Step) → w ≡ v → IsPlanFor v change stamp s → IsPlan w s

@@ -1,5 +1,5 @@
 // The cases of each module, and the test that tries them.
-use crate::{changing, making, putting, reading, sharing};
+use crate::{changes, empty_minidisks, puts, reads, shared_blocks};
 use cms_cases::{Subject, try_rows};
 use std::alloc::{AllocError, Global};
 use std::test::Fail;
@@ -16,21 +16,21 @@ enum Cases {
 
 // The rows of each.
 const ROWS: &[(Cases, &str)] = &[
-    (Cases::Reading, reading::ROWS),
-    (Cases::Putting, putting::ROWS),
-    (Cases::Changing, changing::ROWS),
-    (Cases::Sharing, sharing::ROWS),
-    (Cases::Making, making::ROWS),
+    (Cases::Reading, reads::ROWS),
+    (Cases::Putting, puts::ROWS),
+    (Cases::Changing, changes::ROWS),
+    (Cases::Sharing, shared_blocks::ROWS),
+    (Cases::Making, empty_minidisks::ROWS),
 ];
 
 impl Subject for Cases {
     fn answer(&self, alloc: Global, case: &str) -> Result<String, AllocError> {
         match self {
-            Cases::Reading => reading::answer(alloc, case),
-            Cases::Putting => putting::answer(alloc, case),
-            Cases::Changing => changing::answer(alloc, case),
-            Cases::Sharing => sharing::answer(alloc, case),
-            Cases::Making => making::answer(alloc, case),
+            Cases::Reading => reads::answer(alloc, case),
+            Cases::Putting => puts::answer(alloc, case),
+            Cases::Changing => changes::answer(alloc, case),
+            Cases::Sharing => shared_blocks::answer(alloc, case),
+            Cases::Making => empty_minidisks::answer(alloc, case),
         }
     }
 }

@@ -1,7 +1,7 @@
 // Volumes: opened, changed and made.
 mod cases;
-mod drafting;
-mod making;
-mod opening;
+mod drafts;
+mod empty_volumes;
+mod openings;
 mod volumes;
-mod writing;
+mod written_files;

@@ -4,20 +4,20 @@
 #[cfg(test)]
 mod cases;
 #[cfg(test)]
-mod changing;
+mod changes;
 #[cfg(test)]
 mod disk;
 #[cfg(test)]
 mod edf;
 #[cfg(test)]
-mod filed;
+mod empty_minidisks;
 #[cfg(test)]
-mod making;
+mod filed;
 #[cfg(test)]
 mod many_tests;
 #[cfg(test)]
-mod putting;
+mod puts;
 #[cfg(test)]
-mod reading;
+mod reads;
 #[cfg(test)]
-mod sharing;
+mod shared_blocks;

@@ -18,22 +18,22 @@ use Rattle.cms_model.proofs.Quotients.{up_spec, up_below, up_unique}
 use Rattle.cms_tree.specs.declared.types.Mark.{Mark}
 use Rattle.cms_tree.specs.Kept.{Kept}
 use Rattle.cms_tree.specs.Tiers.{AllKeep, lowest}
-use Rattle.cms_tree.specs.Climbs.{AddsOn, AddsOwn, Climbing, ClimbsOn, HoldsLittle, IsNew, IsNext, climb_writes_on, numbers_behind}
+use Rattle.cms_tree.specs.Climbs.{AddsOn, AddsOwn, Climb, ClimbsOn, HoldsLittle, IsNew, IsNext, climb_writes_on, numbers_behind}
 use Rattle.cms_tree.specs.Levels.{mark_at}
-use Rattle.cms_tree.proofs.Filling.{overwrite-zeros}
-use Rattle.cms_tree.proofs.Stepping.{units_kept}
+use Rattle.cms_tree.proofs.ClimbSteps.{units_kept}
+use Rattle.cms_tree.proofs.FilledBlocks.{overwrite-zeros}
 use Rattle.cms_model.specs.LawsUpdates.{AddsFront}
 use Rattle.cms_held.specs.Drafts.{filled, data_block, data_write, nowhere}
-use Rattle.cms_draft.specs.BlockWriting.{AddsOwnBlocks, its_blocks, IsWriter, CanWrite, came, Streams, ComesNext, IsDone, block_done, WritesBlock, IsAtStart, IsNewWriter, IsSame, mark_on, AreMarked, written_with, Wrote, Stops, Finishes}
+use Rattle.cms_draft.specs.BlockWriters.{AddsOwnBlocks, its_blocks, IsWriter, CanWrite, came, Streams, ComesNext, IsDone, block_done, WritesBlock, IsAtStart, IsNewWriter, IsSame, mark_on, AreMarked, written_with, Wrote, Stops, Finishes}
 use Rattle.cms_draft.specs.declared.block_writer.BlockWriter.{BlockWriter}
 use Rattle.cms_held.proofs.Fronts.{wrote_behind, failed_behind, failed_before, wrote_none as no_writes}
-use Rattle.cms_tree.proofs.Lifting.{may_add_front}
+use Rattle.cms_tree.proofs.ClimbBlocks.{may_add_front}
 use Rattle.cms_tree.proofs.Own.{may_add_own, own_none, own_twice, in_drop_at}
-use Rattle.cms_held.proofs.Drafting.{next_written}
+use Rattle.cms_held.proofs.DraftBlocks.{next_written}
 use Rattle.cms_held.proofs.DraftOwn.{keeps_nothing}
 use Rattle.cms_model.proofs.Members.{In-left, In-right}
 use Rattle.cms_model.specs.Lists.{In}
-use Rattle.cms_held.specs.Opening.{HeldTree}
+use Rattle.cms_held.specs.HeldVolumes.{HeldTree}
 
 pub next_multiple : (a b : ℕ) → (a + 1) * b ≡ a * b + b
 next_multiple a b = grind arith
@@ -377,7 +377,7 @@ pub writer_flushed : (w w' : BlockWriter) → IsWriter w → IsSame w w' → w.w
 writer_flushed w w' is same less whole filled long climb held =
     let size = is.size in
     let added = is.climb_added in
-    let added' = ap (λ (c : Climbing). c.added) climb in
+    let added' = ap (λ (c : Climb). c.added) climb in
     record {
       size = rw same.bsize is.size;
       pointer = rw same.psize is.pointer;
@@ -385,9 +385,9 @@ writer_flushed w w' is same less whole filled long climb held =
       count = rw (same.tree, same.size, same.bsize) is.count;
       nodes = rw (same.tree, same.bsize, same.psize) is.nodes;
       climb_held = held;
-      climb_size = ap (λ (c : Climbing). c.bsize) climb ∙ is.climb_size ∙ sym same.bsize;
-      climb_pointer = ap (λ (c : Climbing). c.psize) climb ∙ is.climb_pointer ∙ sym same.psize;
-      climb_count = ap (λ (c : Climbing). c.count) climb ∙ is.climb_count ∙ ap (λ (t : HeldTree). length t.leaves) (sym same.tree);
+      climb_size = ap (λ (c : Climb). c.bsize) climb ∙ is.climb_size ∙ sym same.bsize;
+      climb_pointer = ap (λ (c : Climb). c.psize) climb ∙ is.climb_pointer ∙ sym same.psize;
+      climb_count = ap (λ (c : Climb). c.count) climb ∙ is.climb_count ∙ ap (λ (t : HeldTree). length t.leaves) (sym same.tree);
       climb_kept = let low = is.climb_kept in let k = same.kept in omega arith;
       climb_added = omega arith;
       within = let tree : length w'.tree.leaves ≡ length w.tree.leaves = ap (λ (t : HeldTree). length t.leaves) same.tree in omega arith;

@@ -11,10 +11,10 @@ use Rattle.cms_model.specs.Sizes.{pointer_count}
 use Rattle.cms_model.proofs.Quotients.{up_some}
 use Rattle.cms_tree.specs.Builds.{IsBuildable}
 use Rattle.cms_held.specs.Drafts.{Front, filled, mark_with, stored_on}
-use Rattle.cms_held.specs.Opening.{HeldTree}
-use Rattle.cms_draft.specs.BlockWriting.{IsWriter}
-use Rattle.cms_draft.specs.Continuing.{IsBegun, IsContinued, bytes_before}
-use Rattle.cms_draft.specs.Drafting.{Drafting, IsDrafting, IsMarkedSo, marks_in}
+use Rattle.cms_held.specs.HeldVolumes.{HeldTree}
+use Rattle.cms_draft.specs.BegunFiles.{IsBegun, IsContinued, bytes_before}
+use Rattle.cms_draft.specs.BlockWriters.{IsWriter}
+use Rattle.cms_draft.specs.FileWriters.{FileWriter, IsDrafting, IsMarkedSo, marks_in}
 use Rattle.cms_draft.specs.declared.begun.Begun.{Begun}
 use Rattle.cms_draft.specs.declared.block_writer.BlockWriter.{BlockWriter}
 use Rattle.cms_draft.specs.declared.shape.DraftShape.{DraftShape}
@@ -39,7 +39,7 @@ writer_on unit bsize psize size tree b = record {
 }
 
 -- the file
-abbrev pub drafting_on : ℕ → ℕ → DraftShape → ℕ → HeldTree → Begun → Drafting
+abbrev pub drafting_on : ℕ → ℕ → DraftShape → ℕ → HeldTree → Begun → FileWriter
 drafting_on unit bsize shape put tree b = record {
   shape = shape;
   put = put;
@@ -127,7 +127,7 @@ continued unit bsize put shape tree b some few count nodes s = record {
   };
 }
   where
-    d : Drafting
+    d : FileWriter
     d = drafting_on unit bsize shape put tree b
 
     came_on : (front : Front) → length front.bytes ≡ bytes_before bsize b → bytes_before bsize b ≡ length (stored_on shape.format front [])
@@ -151,7 +151,7 @@ continued unit bsize put shape tree b some few count nodes s = record {
 -- ---- by the bytes of its pointers
 
 -- the file, where these are told
-abbrev pub drafting_by : ℕ → ℕ → ℕ → DraftShape → ℕ → HeldTree → Begun → Drafting
+abbrev pub drafting_by : ℕ → ℕ → ℕ → DraftShape → ℕ → HeldTree → Begun → FileWriter
 drafting_by unit bsize psize shape put tree b = record { shape = shape; put = put; writer = writer_on unit bsize psize shape.bytes tree b }
 
 pub drafting_sound : (unit bsize psize put : ℕ) (shape : DraftShape) (tree : HeldTree) (b : Begun) → psize ≡ pointer_size shape.format → shape.bytes ≤ most_bytes → shape.count ≤ most_records → put ≤ shape.count

@@ -17,7 +17,7 @@ use Rattle.cms_model.proofs.Records.{length-with_length, stored_append}
 use Rattle.cms_model.proofs.Quotients.{up_some}
 use Rattle.cms_tree.specs.declared.types.Mark.{Mark}
 use Rattle.cms_tree.specs.Builds.{IsBuildable}
-use Rattle.cms_held.specs.Opening.{HeldTree}
+use Rattle.cms_held.specs.HeldVolumes.{HeldTree}
 use Rattle.cms_fields.specs.Limits.{most_bytes}
 use Rattle.cms_draft.specs.declared.shape.DraftShape.{DraftShape}
 use Rattle.std.proofs.lemmas.List.{length-map}
@@ -26,9 +26,9 @@ use Rattle.std.proofs.lemmas.List.FromFn.{length-range_with_len}
 use Rattle.cms_tree.specs.Kept.{Kept}
 use Rattle.cms_held.specs.Drafts.{Front, mark_with, no_front, nowhere, own_blocks, stored_on}
 use Rattle.cms_held.proofs.DraftOwn.{own_all}
-use Rattle.cms_tree.proofs.Lifting.{some_fan}
-use Rattle.cms_draft.specs.BlockWriting.{Finishes, its_blocks, IsNewWriter, IsWriter, IsSame, came, AreMarked, ComesNext, Stops, Streams, Writes, Wrote, mark_on, with_start}
-use Rattle.cms_draft.specs.Drafting.{Drafting, Drafts, IsDrafting, IsFresh, IsMarkedSo, Puts, marks_in, marks_of}
+use Rattle.cms_tree.proofs.ClimbBlocks.{some_fan}
+use Rattle.cms_draft.specs.BlockWriters.{Finishes, its_blocks, IsNewWriter, IsWriter, IsSame, came, AreMarked, ComesNext, Stops, Streams, Writes, Wrote, mark_on, with_start}
+use Rattle.cms_draft.specs.FileWriters.{FileWriter, Drafts, IsDrafting, IsFresh, IsMarkedSo, Puts, marks_in, marks_of}
 use Rattle.cms_draft.specs.declared.block_writer.BlockWriter.{BlockWriter}
 use Rattle.cms_draft.proofs.BlockWritten.{block_there, few_leaves, mark_here, mark_behind, mark_later, marked_later, next_later, next_multiple, same_twice, stops_on, wrote_none, wrote_on}
 use Rattle.cms_draft.proofs.DraftMarks.{Begins, mark_end, mark_is, mark_whole, place_none, place_past, started_place}
@@ -145,7 +145,7 @@ long_varying text = ap (λ (l : List ℕ). length l) (append-nil (with_length te
 regroup : (records more : List (List ℕ)) (text : List ℕ) → (records ++ text ∷ []) ++ more ≡ records ++ (text ∷ more)
 regroup records more text = append_assoc records (text ∷ []) more
 
-put_done : (old new : Told) (d : Drafting) (w : BlockWriter) (front : Front) (records more : List (List ℕ)) (text : List ℕ) (x : ⊤) → Drafts d front records (text ∷ more) → IsSame d.writer w
+put_done : (old new : Told) (d : FileWriter) (w : BlockWriter) (front : Front) (records more : List (List ℕ)) (text : List ℕ) (x : ⊤) → Drafts d front records (text ∷ more) → IsSame d.writer w
     → came w ≡ came d.writer + length (stored d.shape.format (text ∷ [])) → IsMarkedSo d.shape.format w front (records ++ text ∷ [])
     → Wrote old new d.writer w front.nodes (stored_on d.shape.format front (records ++ (text ∷ more))) (marks_in d front (records ++ (text ∷ more)))
     → Puts old new d (record d { put = d.put + 1; writer = w }) front records text more (Ok x)
@@ -168,7 +168,7 @@ put_done old new d w front records more text x h same came_is mark wrote = (
 
 -- ---- at F
 
-pub put_fixed : (old new : Told) (d : Drafting) (w : BlockWriter) (front : Front) (records more : List (List ℕ)) (text : List ℕ) (r : Result ⊤ Failed) → d.shape.format ≡ F → IsDrafting d
+pub put_fixed : (old new : Told) (d : FileWriter) (w : BlockWriter) (front : Front) (records more : List (List ℕ)) (text : List ℕ) (r : Result ⊤ Failed) → d.shape.format ≡ F → IsDrafting d
     → Drafts d front records (text ∷ more)
     → IsSame d.writer w → OnOk r (came w ≡ came d.writer + length text)
     → ((es : List Kept) (bytes : List ℕ) (marks : List Mark) → Streams d.writer es bytes marks → ComesNext (came d.writer) text bytes → AreMarked d.writer (came d.writer + length text) marks
@@ -244,29 +244,29 @@ sized old mid w w1 w2 size r is =
     (λ same all mark later writes. record { same = same; all = all; mark = mark; later = later; writes = writes })
 
 -- what is known of a record that is put
-pub record Putting (d : Drafting) (front : Front) (records more : List (List ℕ)) (text size : List ℕ) : Type 0 where
+pub record Putting (d : FileWriter) (front : Front) (records more : List (List ℕ)) (text size : List ℕ) : Type 0 where
   pub is : d.shape.format ≡ V
   pub drafting : IsDrafting d
   pub drafts : Drafts d front records (text ∷ more)
   pub room : came d.writer + length (stored d.shape.format (text ∷ [])) ≤ d.writer.size
   pub size_is : size ≡ big_bytes 2 (length text)
 
-abbrev bytes_of : Drafting → Front → List (List ℕ) → List (List ℕ) → List ℕ → List ℕ
+abbrev bytes_of : FileWriter → Front → List (List ℕ) → List (List ℕ) → List ℕ → List ℕ
 bytes_of d front records more text = stored_on d.shape.format front (records ++ (text ∷ more))
 
-abbrev all_marks : Drafting → Front → List (List ℕ) → List (List ℕ) → List ℕ → List Mark
+abbrev all_marks : FileWriter → Front → List (List ℕ) → List (List ℕ) → List ℕ → List Mark
 all_marks d front records more text = marks_in d front (records ++ (text ∷ more))
 
-at_V : (d : Drafting) (front : Front) (records more : List (List ℕ)) (text size : List ℕ) → Putting d front records more text size → came d.writer ≡ length (stored_on V front records)
+at_V : (d : FileWriter) (front : Front) (records more : List (List ℕ)) (text size : List ℕ) → Putting d front records more text size → came d.writer ≡ length (stored_on V front records)
 at_V d front records more text size p = p.drafts.came_is ∙ ap (λ (f : Format). length (stored_on f front records)) p.is
 
-marked_V : (d : Drafting) (front : Front) (records more : List (List ℕ)) (text size : List ℕ) → Putting d front records more text size → IsMarkedSo V d.writer front records
+marked_V : (d : FileWriter) (front : Front) (records more : List (List ℕ)) (text size : List ℕ) → Putting d front records more text size → IsMarkedSo V d.writer front records
 marked_V d front records more text size p = subst (λ (f : Format). IsMarkedSo f d.writer front records) p.is p.drafts.mark
 
-long_V : (d : Drafting) (front : Front) (records more : List (List ℕ)) (text size : List ℕ) → Putting d front records more text size → length (stored d.shape.format (text ∷ [])) ≡ 2 + length text
+long_V : (d : FileWriter) (front : Front) (records more : List (List ℕ)) (text size : List ℕ) → Putting d front records more text size → length (stored d.shape.format (text ∷ [])) ≡ 2 + length text
 long_V d front records more text size p = ap (λ (f : Format). length (stored f (text ∷ []))) p.is ∙ long_varying text
 
-stored_next : (d : Drafting) (front : Front) (records more : List (List ℕ)) (text size : List ℕ) → Putting d front records more text size → ComesNext (came d.writer) (with_length text) (bytes_of d front records more text)
+stored_next : (d : FileWriter) (front : Front) (records more : List (List ℕ)) (text size : List ℕ) → Putting d front records more text size → ComesNext (came d.writer) (with_length text) (bytes_of d front records more text)
 stored_next d front records more text size p =
     subst (λ (f : Format). ComesNext (came d.writer) (with_length text) (stored_on f front (records ++ (text ∷ more)))) (sym p.is)
     (next_stored (came d.writer) front records more text (at_V d front records more text size p))
@@ -274,7 +274,7 @@ stored_next d front records more text size p =
 two : (size text : List ℕ) → size ≡ big_bytes 2 (length text) → length size ≡ 2
 two size text is = ap (λ (l : List ℕ). length l) is ∙ length-bytes_high_first 2 (length text)
 
-all_marked : (d : Drafting) (front : Front) (records more : List (List ℕ)) (text size : List ℕ) → Putting d front records more text size
+all_marked : (d : FileWriter) (front : Front) (records more : List (List ℕ)) (text size : List ℕ) → Putting d front records more text size
     → AreMarked (begun d.writer) (came d.writer + (2 + length text)) (all_marks d front records more text)
 all_marked d front records more text size p =
     let room = p.room in
@@ -282,7 +282,7 @@ all_marked d front records more text size p =
     subst (λ (f : Format). AreMarked (begun d.writer) (came d.writer + (2 + length text)) (marks_of f d.writer.bsize front (records ++ (text ∷ more)) (length d.writer.tree.leaves))) (sym p.is)
     (begun_marked d.writer front records more text p.drafting.writer (marked_V d front records more text size p) p.drafts.begins (at_V d front records more text size p) p.drafting.unfilled (omega arith))
 
-size_writes : (old mid : Told) (d : Drafting) (w2 : BlockWriter) (front : Front) (records more : List (List ℕ)) (text size : List ℕ) (r : Result ⊤ Failed) → Putting d front records more text size
+size_writes : (old mid : Told) (d : FileWriter) (w2 : BlockWriter) (front : Front) (records more : List (List ℕ)) (text size : List ℕ) (r : Result ⊤ Failed) → Putting d front records more text size
     → Sized old mid d.writer w2 size r
     → Writes old mid (begun d.writer) w2 front.nodes (bytes_of d front records more text) (all_marks d front records more text) (came d.writer + length size) r
 size_writes old mid d w2 front records more text size r p z =
@@ -293,7 +293,7 @@ size_writes old mid d w2 front records more text size r p z =
     (fewer_marked (begun d.writer) (came d.writer + length size) (came d.writer + (2 + length text)) (all_marks d front records more text) (omega arith) (all_marked d front records more text size p))
 
 -- the length of a record failed to be written
-pub put_size_fails : (old mid : Told) (d : Drafting) (w2 : BlockWriter) (front : Front) (records more : List (List ℕ)) (text size : List ℕ) (e : Failed) → Putting d front records more text size
+pub put_size_fails : (old mid : Told) (d : FileWriter) (w2 : BlockWriter) (front : Front) (records more : List (List ℕ)) (text size : List ℕ) (e : Failed) → Putting d front records more text size
     → Sized old mid d.writer w2 size (Err e)
     → Stops old mid d.writer front.nodes (bytes_of d front records more text) (all_marks d front records more text) (length (stored_on d.shape.format front (records ++ text ∷ [])))
 put_size_fails old mid d w2 front records more text size e p z =
@@ -308,7 +308,7 @@ put_size_fails old mid d w2 front records more text size e p z =
     (omega arith)
     (size_writes old mid d w2 front records more text size (Err e) p z))
 
-pub put_varying : (old mid new : Told) (d : Drafting) (w2 w : BlockWriter) (front : Front) (records more : List (List ℕ)) (text size : List ℕ) (x : ⊤) (r : Result ⊤ Failed) → Putting d front records more text size
+pub put_varying : (old mid new : Told) (d : FileWriter) (w2 w : BlockWriter) (front : Front) (records more : List (List ℕ)) (text size : List ℕ) (x : ⊤) (r : Result ⊤ Failed) → Putting d front records more text size
     → Sized old mid d.writer w2 size (Ok x) → IsSame w2 w → OnOk r (came w ≡ came w2 + length text) → OnOk r (w.mark ≡ mark_on w2 w.whole) → w2.whole ≤ w.whole
     → ((es : List Kept) (bytes : List ℕ) (marks : List Mark) → Streams w2 es bytes marks → ComesNext (came w2) text bytes → AreMarked w2 (came w2 + length text) marks
     → Writes mid new w2 w es bytes marks (came w2 + length text) r)
@@ -490,7 +490,7 @@ all_end_marks : (format : Format) (w : BlockWriter) (front : Front) (records : L
 all_end_marks F w front records four is mark begins at unfilled wide = let none : 4 ≡ 12 = sym four ∙ wide in absurd (omega arith)
 all_end_marks V w front records twelve is mark begins at unfilled wide = end_marks w front records is mark begins at unfilled wide
 
-pub file_finishes : {A : Type 0} (old new : Told) (d : Drafting) (front : Front) (records : List (List ℕ)) (r : Result A Failed) → IsDrafting d → Drafts d front records []
+pub file_finishes : {A : Type 0} (old new : Told) (d : FileWriter) (front : Front) (records : List (List ℕ)) (r : Result A Failed) → IsDrafting d → Drafts d front records []
     → ((es : List Kept) (bytes : List ℕ) (marks : List Mark) → Streams d.writer es bytes marks → AreMarked d.writer (length d.writer.tree.leaves * d.writer.bsize) marks
     → Finishes old new d.writer es bytes marks r)
     → Finishes old new d.writer front.nodes (stored_on d.shape.format front records) (marks_in d front records) r

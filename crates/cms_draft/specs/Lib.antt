@@ -1,3 +1,3 @@
-pub mod BlockWriting
-pub mod Continuing
-pub mod Drafting
+pub mod BlockWriters
+pub mod BegunFiles
+pub mod FileWriters

@@ -9,9 +9,9 @@ ghost use Rattle.cms_model.specs.Sizes.{pointer_count};
 ghost use Rattle.cms_tree.specs.declared.types.Mark.{Mark};
 ghost use Rattle.cms_tree.specs.Kept.{Kept};
 ghost use Rattle.cms_held.specs.Drafts.{nowhere};
-ghost use Rattle.cms_draft.specs.BlockWriting.{AddsOwnBlocks, AreMarked, CanWrite, Finishes, IsDone, IsLater, IsNewWriter, IsSame, IsWriter, Streams, TakesBytes, WritesBlock, came, mark_on, with_start};
+ghost use Rattle.cms_draft.specs.BlockWriters.{AddsOwnBlocks, AreMarked, CanWrite, Finishes, IsDone, IsLater, IsNewWriter, IsSame, IsWriter, Streams, TakesBytes, WritesBlock, came, mark_on, with_start};
 
-use cms_held::TreeBlocks;
+use cms_held::HeldTree;
 use cms_journal::BlockSize;
 use cms_text::bytes::{after, put};
 use cms_tree::{Climb, Mark};
@@ -29,7 +29,7 @@ pub struct BlockWriter {
     pub bsize: BlockSize,
     pub psize: u8,
     /// the data blocks, and the pointer blocks from the bottom level on
-    pub tree: TreeBlocks,
+    pub tree: HeldTree,
     /// the bytes that there are to be
     pub size: u32,
     pub climb: Climb,
@@ -52,7 +52,7 @@ impl BlockWriter {
         bsize: BlockSize,
         psize: u8,
         size: u32,
-        tree: TreeBlocks,
+        tree: HeldTree,
     ) -> Result<BlockWriter, AllocError>
         requires psize { (psize ≡ 4) ⊎ (psize ≡ 12) }
         requires some { 1 ≤ size }

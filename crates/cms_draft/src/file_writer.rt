@@ -8,16 +8,16 @@ ghost use Rattle.cms_fields.specs.Numbers.{up};
 ghost use Rattle.cms_model.specs.Records.{Fits, stored};
 ghost use Rattle.cms_model.specs.Sizes.{pointer_count};
 ghost use Rattle.cms_held.specs.Drafts.{Front, stored_on};
-ghost use Rattle.cms_draft.specs.BlockWriting.{AddsOwnBlocks, CanWrite, Finishes, IsSame, came};
-ghost use Rattle.cms_draft.specs.Continuing.{IsBegun, IsContinued, bytes_before};
-ghost use Rattle.cms_draft.specs.Drafting.{Drafts, IsDrafting, IsFresh, Puts, marks_in, start_in};
+ghost use Rattle.cms_draft.specs.BegunFiles.{IsBegun, IsContinued, bytes_before};
+ghost use Rattle.cms_draft.specs.BlockWriters.{AddsOwnBlocks, CanWrite, Finishes, IsSame, came};
+ghost use Rattle.cms_draft.specs.FileWriters.{Drafts, IsDrafting, IsFresh, Puts, marks_in, start_in};
 
 use crate::begun::Begun;
 use crate::block_writer::{BlockWriter, NOWHERE};
 use crate::shape::DraftShape;
 use byteorder::{BigEndian, ByteOrder};
 use cms_fields::pointer_size;
-use cms_held::TreeBlocks;
+use cms_held::HeldTree;
 use cms_journal::BlockSize;
 use cms_names::Format;
 use cms_world::{Failed, World};
@@ -35,9 +35,10 @@ pub struct FileWriter {
 }
 
 impl Model for FileWriter {
-    ghost use Rattle.cms_draft.specs.Drafting.{Drafting, IsDrafting};
+    ghost use Rattle.cms_draft.specs.FileWriters as writers;
+    ghost use Rattle.cms_draft.specs.FileWriters.{IsDrafting};
 
-    ghost Value = { Drafting };
+    ghost Value = { writers.FileWriter };
 
     ghost view = { λ d. record { shape = d.shape; put = d.put; writer = d.writer } };
 
@@ -52,7 +53,7 @@ impl FileWriter {
         unit: u8,
         bsize: BlockSize,
         shape: &DraftShape,
-        tree: TreeBlocks,
+        tree: HeldTree,
     ) -> Result<FileWriter, AllocError>
         requires some { 1 ≤ shape.now.bytes }
         requires bytes { shape.now.bytes ≤ most_bytes }
@@ -84,7 +85,7 @@ impl FileWriter {
         bsize: BlockSize,
         shape: &DraftShape,
         put: u32,
-        tree: TreeBlocks,
+        tree: HeldTree,
         begun: Begun,
     ) -> FileWriter
         requires some { 1 ≤ shape.now.bytes }
@@ -205,7 +206,7 @@ impl FileWriter {
     /// complete with it.
     ///
     /// It takes no memory. `Failed` where the device did.
-    pub fn finish<W: World>(self, world: &mut W) -> Result<TreeBlocks, Failed>
+    pub fn finish<W: World>(self, world: &mut W) -> Result<HeldTree, Failed>
         requires records { self.put ≡ self.shape.count }
         requires bytes { came self.writer ≡ self.writer.size }
         requires ready { ForSome (W.told world.old) (λ j. CanWrite j.units self.writer) }

@@ -26,17 +26,17 @@ use Rattle.cms_tree.specs.declared.types.Mark.{Mark}
 use Rattle.cms_tree.specs.Builds.{IsBuildable}
 use Rattle.cms_tree.specs.Climbs.{AreOwn}
 use Rattle.cms_tree.specs.Tiers.{AllKeep, lowest}
-use Rattle.cms_held.specs.Adding.{IsAddReady}
-use Rattle.cms_held.specs.Carrying.{Carries, IsHeldMinidisk, written_count}
+use Rattle.cms_held.specs.Additions.{IsAddReady}
 use Rattle.cms_held.specs.Drafts.{Front, HasDraft, draft_writes, stored_on}
-use Rattle.cms_held.specs.Growing.{GrowsHeld, IsGrownAs, KeepsFront, form_on, last_leaf, length_with, places_behind}
+use Rattle.cms_held.specs.Growths.{GrowsHeld, IsGrownAs, KeepsFront, form_on, last_leaf, length_with, places_behind}
 use Rattle.cms_held.specs.HeldTrees.{FileStands, StartsSo}
+use Rattle.cms_held.specs.HeldVolumes.{HeldFile, HeldTree, HeldVolume, size_of}
 use Rattle.cms_held.specs.Kept.{IsKeptFile}
-use Rattle.cms_held.specs.LawsRenewing.{writes_of}
+use Rattle.cms_held.specs.LawsRenewals.{writes_of}
 use Rattle.cms_held.specs.Marks.{start_of}
-use Rattle.cms_held.specs.Opening.{HeldFile, HeldTree, HeldVolume, size_of}
-use Rattle.cms_held.specs.Putting.{AreFree}
-use Rattle.cms_held.specs.Renewing.{Edit, entries_held}
+use Rattle.cms_held.specs.MinidiskUpdates.{Carries, IsHeldMinidisk, written_count}
+use Rattle.cms_held.specs.Puts.{AreFree}
+use Rattle.cms_held.specs.Renewals.{Edit, entries_held}
 use Rattle.cms_held.specs.SharedBlocks.{fresh_of}
 use Rattle.cms_held.specs.SharedTrees.{HasShape, StandsByLevels}
 use Rattle.cms_held.specs.Written.{ReadsBack}
@@ -46,12 +46,12 @@ use Rattle.cms_held.proofs.BlockBytes.{all_long}
 use Rattle.cms_held.proofs.Drafted.{fan_is}
 use Rattle.cms_held.proofs.Edits.{AtPlace, Old, at_place, files_old}
 use Rattle.cms_held.proofs.PlannedWrites.{WritesBlocks}
-use Rattle.cms_draft.specs.BlockWriting.{Streams, its_blocks}
-use Rattle.cms_draft.specs.Drafting.{Drafts, IsDrafting, marks_in, start_in}
+use Rattle.cms_draft.specs.BlockWriters.{Streams, its_blocks}
+use Rattle.cms_draft.specs.FileWriters.{Drafts, IsDrafting, marks_in, start_in}
 use Rattle.cms_draft.specs.declared.block_writer.BlockWriter.{BlockWriter}
 use Rattle.cms_draft.specs.declared.shape.DraftShape.{DraftShape}
-use Rattle.cms_edf.specs.FileDrafts.{DraftStands, FileDraft, IsLeft, commit_writes, file_for, put_writes, tree_of}
-use Rattle.cms_edf.specs.Growing.{IsFrontOf, IsGrowthPlanned, IsMoreFor, kept_in}
+use Rattle.cms_edf.specs.FileDrafts.{DraftStands, Draft, IsLeft, commit_writes, file_for, put_writes, tree_of}
+use Rattle.cms_edf.specs.Growths.{IsFrontOf, IsGrowthPlanned, IsMoreFor, kept_in}
 use Rattle.cms_edf.proofs.AddedFront.{front_behind}
 use Rattle.cms_edf.proofs.AddedRecords.{grown_records, start_behind}
 use Rattle.cms_edf.proofs.Committed.{AllStands, Whole, all_stands, all_streams, left_own, whole_behind}
@@ -72,7 +72,7 @@ same_file : (a b : HeldFile) → Some a ≡ Some b → a ≡ b
 same_file a b e = cc
 
 -- an addition whose records were all put, where the blocks that were left were written too
-record Added (j : Journal) (v : HeldVolume) (m : Minidisk) (d : FileDraft) (name : Name) (f : HeldFile) (shape : DraftShape) (stamp : Stamp) (front : Front) (records : List (List ℕ)) : Type 0 where
+record Added (j : Journal) (v : HeldVolume) (m : Minidisk) (d : Draft) (name : Name) (f : HeldFile) (shape : DraftShape) (stamp : Stamp) (front : Front) (records : List (List ℕ)) : Type 0 where
   held : IsHeldMinidisk j v m
   kept : IsDrafting d.writer
   planned : IsMoreFor v name f shape stamp d
@@ -82,7 +82,7 @@ record Added (j : Journal) (v : HeldVolume) (m : Minidisk) (d : FileDraft) (name
   has : HasDraft (now j v.unit) v.disk.bsize d.writer.writer.psize (tree_of d).leaves (marks_in d.writer front records) (tree_of d).pointers d.writer.writer.kept front.nodes
       (stored_on d.writer.shape.format front records) (length (tree_of d).leaves)
 
-module _ (j : Journal) (v : HeldVolume) (m : Minidisk) (d : FileDraft) (name : Name) (f : HeldFile) (shape : DraftShape) (stamp : Stamp) (front : Front) (records : List (List ℕ))
+module _ (j : Journal) (v : HeldVolume) (m : Minidisk) (d : Draft) (name : Name) (f : HeldFile) (shape : DraftShape) (stamp : Stamp) (front : Front) (records : List (List ℕ))
     (x : Added j v m d name f shape stamp front records) where
   abbrev bsize : ℕ
   bsize = v.disk.bsize
@@ -263,7 +263,7 @@ module _ (j : Journal) (v : HeldVolume) (m : Minidisk) (d : FileDraft) (name : N
   is_ready = record { there = plan_at.is; ready = plan_at.ready; grows = add_grows }
 
 -- an addition is ready once its blocks that were left are written
-pub add_ready : (j : Journal) (v : HeldVolume) (m : Minidisk) (d : FileDraft) (name : Name) (f : HeldFile) (shape : DraftShape) (stamp : Stamp) (p : IsMoreFor v name f shape stamp d) (front : Front)
+pub add_ready : (j : Journal) (v : HeldVolume) (m : Minidisk) (d : Draft) (name : Name) (f : HeldFile) (shape : DraftShape) (stamp : Stamp) (p : IsMoreFor v name f shape stamp d) (front : Front)
     (records : List (List ℕ)) (rest : List Write) → IsHeldMinidisk j v m → IsDrafting d.writer → IsFrontOf j v f (tree_of d) front → Drafts d.writer front records []
     → length_with shape.format f.length records ≡ shape.length → DraftStands j d.writer front records → IsLeft d front records rest
     → IsAddReady (after j (writes v.unit rest)) v stamp d.systems (p.file (start_in d.writer)).place f (file_for v.disk.bsize name shape (tree_of d) (start_in d.writer)) (marks_in d.writer front records)
@@ -281,7 +281,7 @@ add_ready j v m d name f shape stamp p front records rest held kept read h longe
       has = all.has;
     })
 
-pub add_whole : (j : Journal) (v : HeldVolume) (m : Minidisk) (d : FileDraft) (name : Name) (f : HeldFile) (shape : DraftShape) (stamp : Stamp) (p : IsMoreFor v name f shape stamp d) (front : Front)
+pub add_whole : (j : Journal) (v : HeldVolume) (m : Minidisk) (d : Draft) (name : Name) (f : HeldFile) (shape : DraftShape) (stamp : Stamp) (p : IsMoreFor v name f shape stamp d) (front : Front)
     (records : List (List ℕ)) (rest : List Write) → IsHeldMinidisk j v m → IsDrafting d.writer → IsFrontOf j v f (tree_of d) front → Drafts d.writer front records []
     → length_with shape.format f.length records ≡ shape.length → DraftStands j d.writer front records → IsLeft d front records rest
     → Whole j v m d (more_edit v name f shape stamp d p (start_in d.writer)) (put_writes d front records) rest (Add name records shape.stamp)
@@ -346,7 +346,7 @@ add_whole j v m d name f shape stamp p front records rest held kept read h longe
         (add_is_small j1 v stamp d.systems place f file marks front mark records shape.stamp m all.held ready))
 
 -- what its update writes of directory and map are blocks, and none but the first begins a directory
-pub added_blocks : (j : Journal) (v : HeldVolume) (m : Minidisk) (d : FileDraft) (name : Name) (f : HeldFile) (shape : DraftShape) (stamp : Stamp) (p : IsMoreFor v name f shape stamp d) (front : Front)
+pub added_blocks : (j : Journal) (v : HeldVolume) (m : Minidisk) (d : Draft) (name : Name) (f : HeldFile) (shape : DraftShape) (stamp : Stamp) (p : IsMoreFor v name f shape stamp d) (front : Front)
     (records : List (List ℕ)) (rest : List Write) → IsHeldMinidisk j v m → IsDrafting d.writer → IsFrontOf j v f (tree_of d) front → Drafts d.writer front records []
     → length_with shape.format f.length records ≡ shape.length → DraftStands j d.writer front records → IsLeft d front records rest
     → WritesBlocks v (more_edit v name f shape stamp d p (start_in d.writer)) stamp d.systems

@@ -16,28 +16,28 @@ use Rattle.cms_model.specs.Minidisks.{Minidisk}
 use Rattle.cms_model.specs.Settled.{Apart, Write, writes}
 use Rattle.cms_model.specs.Trees.{Image}
 use Rattle.cms_model.proofs.Members.{In-left, In-right}
-use Rattle.cms_model.proofs.Putting.{apart_is_kept, writes_put}
 use Rattle.cms_model.proofs.Repeats.{held, in_held}
 use Rattle.cms_model.proofs.VolumeFrame.{bytes_keep}
+use Rattle.cms_model.proofs.WritesPut.{apart_is_kept, writes_put}
 use Rattle.cms_map.specs.Bits.{free_blocks}
 use Rattle.cms_tree.specs.Climbs.{AreOwn}
-use Rattle.cms_tree.proofs.Building.{fan_wide}
-use Rattle.cms_held.specs.Carrying.{IsHeldMinidisk}
+use Rattle.cms_tree.proofs.BuiltTrees.{fan_wide}
 use Rattle.cms_held.specs.Drafts.{Front}
+use Rattle.cms_held.specs.HeldVolumes.{HeldFile, HeldVolume}
 use Rattle.cms_held.specs.Kept.{IsKeptFile}
-use Rattle.cms_held.specs.Opening.{HeldFile, HeldVolume}
-use Rattle.cms_held.specs.Putting.{AreFree}
-use Rattle.cms_held.specs.Renewing.{blocks_in}
+use Rattle.cms_held.specs.MinidiskUpdates.{IsHeldMinidisk}
+use Rattle.cms_held.specs.Puts.{AreFree}
+use Rattle.cms_held.specs.Renewals.{blocks_in}
 use Rattle.cms_held.specs.SharedBlocks.{AreLong}
 use Rattle.cms_held.specs.SharedTrees.{HasShape}
 use Rattle.cms_held.proofs.Drafted.{fan_is}
 use Rattle.cms_held.proofs.GrownFronts.{front_stays}
 use Rattle.cms_held.proofs.OldBlocks.{old_blocks}
 use Rattle.cms_held.proofs.PutAsides.{free_aside, free_of}
-use Rattle.cms_draft.specs.BlockWriting.{AddsOwnBlocks, its_blocks}
+use Rattle.cms_draft.specs.BlockWriters.{AddsOwnBlocks, its_blocks}
 use Rattle.cms_draft.specs.declared.shape.DraftShape.{DraftShape}
-use Rattle.cms_edf.specs.FileDrafts.{FileDraft, tree_of}
-use Rattle.cms_edf.specs.Growing.{IsFrontOf, IsGrowthPlanned, IsMoreFor, kept_in}
+use Rattle.cms_edf.specs.FileDrafts.{Draft, tree_of}
+use Rattle.cms_edf.specs.Growths.{IsFrontOf, IsGrowthPlanned, IsMoreFor, kept_in}
 use Rattle.cms_edf.proofs.Finished.{told_so}
 use Rattle.cms_edf.proofs.GrownNumbers.{kept_at}
 use Rattle.cms_edf.proofs.GrownOnce.{file_blocks_of}
@@ -89,7 +89,7 @@ file_stays j v m place f blocks ws is_held there are_free own n in' =
         (omega arith, omega arith)
 
 -- what comes in front is then what the unit has
-pub front_behind : (j : Journal) (v : HeldVolume) (m : Minidisk) (name : Name) (f : HeldFile) (shape : DraftShape) (stamp : Stamp) (d : FileDraft) (front : Front) (ws : List Write)
+pub front_behind : (j : Journal) (v : HeldVolume) (m : Minidisk) (name : Name) (f : HeldFile) (shape : DraftShape) (stamp : Stamp) (d : Draft) (front : Front) (ws : List Write)
     → IsHeldMinidisk j v m → IsMoreFor v name f shape stamp d → AreOwn v.disk.bsize (its_blocks d.writer.writer) ws → IsFrontOf j v f (tree_of d) front
     → IsFrontOf (after j (writes v.unit ws)) v f (tree_of d) front
 front_behind j v m name f shape stamp d front ws is_held p own read = record {
@@ -122,7 +122,7 @@ front_behind j v m name f shape stamp d front ws is_held p own read = record {
     same n there = file_stays j v m at.place f (its_blocks d.writer.writer) ws is_held at.is p.own own n there
 
 -- so it is what the unit has where blocks of the draft were added
-pub front_told : (j : Journal) (old new : Told) (v : HeldVolume) (m : Minidisk) (name : Name) (f : HeldFile) (shape : DraftShape) (stamp : Stamp) (d : FileDraft) (front : Front) → old ≡ Some j
+pub front_told : (j : Journal) (old new : Told) (v : HeldVolume) (m : Minidisk) (name : Name) (f : HeldFile) (shape : DraftShape) (stamp : Stamp) (d : Draft) (front : Front) → old ≡ Some j
     → IsHeldMinidisk j v m → IsMoreFor v name f shape stamp d → AddsOwnBlocks old new d.writer.writer → IsFrontOf j v f (tree_of d) front
     → ForSome new (λ k. IsFrontOf k v f (tree_of d) front)
 front_told j old new v m name f shape stamp d front is is_held p own read =

@@ -16,24 +16,24 @@ use Rattle.cms_model.specs.Records.{records_of, stored}
 use Rattle.cms_model.specs.Stands.{HoldsFile, Kept, Layout, file_of}
 use Rattle.cms_model.specs.Trees.{Image, bytes_at}
 use Rattle.cms_model.specs.Volumes.{Disk}
-use Rattle.cms_model.proofs.Changing.{place_changed}
 use Rattle.cms_model.proofs.EntriesRead.{records_so}
+use Rattle.cms_model.proofs.ListChanges.{place_changed}
 use Rattle.cms_tree.specs.declared.types.Mark.{Mark}
 use Rattle.cms_held.specs.Drafts.{Front, mark_with, stored_on}
-use Rattle.cms_held.specs.Growing.{GrowsHeld, growing}
+use Rattle.cms_held.specs.Growths.{GrowsHeld, growing}
+use Rattle.cms_held.specs.HeldVolumes.{HeldFile, HeldVolume}
 use Rattle.cms_held.specs.Kept.{Keeps}
-use Rattle.cms_held.specs.LawsRenewing.{ComesFrom, IsHeldAt}
+use Rattle.cms_held.specs.LawsRenewals.{ComesFrom, IsHeldAt}
 use Rattle.cms_held.specs.Marks.{start_of}
-use Rattle.cms_held.specs.Opening.{HeldFile, HeldVolume}
-use Rattle.cms_held.specs.Renewing.{entries_held}
+use Rattle.cms_held.specs.Renewals.{entries_held}
 use Rattle.cms_held.specs.Written.{ReadsBack}
 use Rattle.cms_held.proofs.Edits.{AtPlace, FoundAt, Moved, at_place, found_at, names_distinct}
 use Rattle.cms_held.proofs.GrownEdits.{grow_moves}
 use Rattle.cms_held.proofs.GrownStarts.{grown_starts}
-use Rattle.cms_draft.specs.BlockWriting.{came}
-use Rattle.cms_draft.specs.Drafting.{IsMarkedSo, start_on}
+use Rattle.cms_draft.specs.BlockWriters.{came}
+use Rattle.cms_draft.specs.FileWriters.{IsMarkedSo, start_on}
 use Rattle.cms_draft.specs.declared.block_writer.BlockWriter.{BlockWriter}
-use Rattle.cms_edf.proofs.Starting.{same_quotient}
+use Rattle.cms_edf.proofs.RecordStarts.{same_quotient}
 
 -- where all files of an image come from itself, each is held by it
 come_at : (disk : Disk) (total : ℕ) (image : Image) (blocks : List ℕ) (fs : List Kept) (k : ℕ) (d : Kept) → k < length fs → ComesFrom disk total image image blocks fs

@@ -8,15 +8,15 @@ use Rattle.cms_model.specs.DirectoryParts.{blocks_made, directory_count}
 use Rattle.cms_model.specs.Sizes.{map_size}
 use Rattle.cms_map.specs.Bits.{free_blocks, with_marked}
 use Rattle.cms_map.specs.Touched.{AreTouched}
-use Rattle.cms_held.specs.Allotting.{IsPartAllotted, IsPlanned, KeepsTree, files_fresh, files_released, nodes_fresh, on_map, part_fresh, part_released, parts_of}
+use Rattle.cms_held.specs.Allotments.{IsPartAllotted, IsPlanned, KeepsTree, files_fresh, files_released, nodes_fresh, on_map, part_fresh, part_released, parts_of}
 use Rattle.cms_held.specs.EntryPlaces.{IsEnoughFor}
+use Rattle.cms_held.specs.HeldVolumes.{HeldFile, HeldTree, HeldVolume}
 use Rattle.cms_held.specs.MapShares.{turned}
-use Rattle.cms_held.specs.Opening.{HeldFile, HeldTree, HeldVolume}
-use Rattle.cms_held.specs.Renewing.{Edit, entries_held, needed, with_freed}
+use Rattle.cms_held.specs.Renewals.{Edit, entries_held, needed, with_freed}
 use Rattle.cms_held.specs.SharedBlocks.{fresh_of, released_of}
 use Rattle.cms_held.specs.Systems.{Systems, TreePart, directory_piece}
-use Rattle.cms_edf.specs.Allotting.{IsAllottedFor, all_fresh, all_released, given_back, need_of, own_fresh, own_released, numbers_made}
-use Rattle.cms_edf.specs.Planning.{IsFilled}
+use Rattle.cms_edf.specs.Allotments.{IsAllottedFor, all_fresh, all_released, given_back, need_of, own_fresh, own_released, numbers_made}
+use Rattle.cms_edf.specs.ChangePlans.{IsFilled}
 use Rattle.cms_edf.specs.declared.allotment.Allotment.{Allotment}
 use Rattle.cms_edf.specs.declared.allotment.Exchange.{Exchange}
 

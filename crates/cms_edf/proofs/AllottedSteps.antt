@@ -5,25 +5,25 @@ use Rattle.cms_journal.proofs.Sizes.{block_bounds}
 use Rattle.cms_fields.specs.Numbers.{up}
 use Rattle.cms_model.specs.DirectoryParts.{blocks_made, directory_count, directory_taken}
 use Rattle.cms_model.specs.Lists.{In}
-use Rattle.cms_model.specs.Sharing.{MayBeWritten, fresh_count, fresh_to}
+use Rattle.cms_model.specs.SharedTrees.{MayBeWritten, fresh_count, fresh_to}
 use Rattle.cms_model.specs.Sizes.{levels, map_size, pointer_count, pointers_to, tree_size}
-use Rattle.cms_model.proofs.Exchanging.{to_few}
+use Rattle.cms_model.proofs.Exchanges.{to_few}
 use Rattle.cms_model.proofs.WrittenBlocks.{written_few}
 use Rattle.cms_map.specs.Bits.{free_blocks, with_marked}
 use Rattle.cms_map.specs.Touched.{AreTouched}
 use Rattle.cms_tree.specs.Paths.{fresh_places}
-use Rattle.cms_tree.proofs.Pathing.{places_count}
-use Rattle.cms_held.specs.Allotting.{KeepsTree, nodes_fresh, on_map}
+use Rattle.cms_tree.proofs.Paths.{places_count}
+use Rattle.cms_held.specs.Allotments.{KeepsTree, nodes_fresh, on_map}
+use Rattle.cms_held.specs.HeldVolumes.{HeldTree, HeldVolume}
 use Rattle.cms_held.specs.Kept.{Keeps}
 use Rattle.cms_held.specs.MapShares.{turned}
-use Rattle.cms_held.specs.Opening.{HeldTree, HeldVolume}
-use Rattle.cms_held.specs.Renewing.{with_freed}
+use Rattle.cms_held.specs.Renewals.{with_freed}
 use Rattle.cms_held.specs.SharedBlocks.{fresh_of, released_of}
 use Rattle.cms_held.specs.Systems.{TreePart}
-use Rattle.cms_held.proofs.Allotting.{directory_small, directory_some, freed_all, freed_none, map_small, nodes_few}
+use Rattle.cms_held.proofs.Allotted.{directory_small, directory_some, freed_all, freed_none, map_small, nodes_few}
 use Rattle.cms_held.proofs.KeptTrees as kept
 use Rattle.cms_held.proofs.PiecesWritten.{take_both}
-use Rattle.cms_edf.specs.Allotting.{IsAllottedFor, MapIsShared, SharesDirectory, all_fresh, all_released, given_back, need_of, own_fresh, own_released, numbers_made}
+use Rattle.cms_edf.specs.Allotments.{IsAllottedFor, MapIsShared, SharesDirectory, all_fresh, all_released, given_back, need_of, own_fresh, own_released, numbers_made}
 use Rattle.cms_edf.specs.declared.allotment.Allotment.{Allotment}
 use Rattle.cms_edf.specs.declared.allotment.Exchange.{Exchange}
 use Rattle.cms_edf.proofs.SharedTaken.{begins_so, map_few, some_written}

@@ -17,24 +17,24 @@ use Rattle.cms_model.specs.Sizes.{levels, pointer_count}
 use Rattle.cms_model.specs.Trees.{Image, bytes_at, image_of}
 use Rattle.cms_tree.specs.declared.types.Mark.{Mark}
 use Rattle.cms_tree.specs.Builds.{IsBuildable}
-use Rattle.cms_tree.specs.Climbs.{Climbing, ClimbsOn, HoldsLittle}
+use Rattle.cms_tree.specs.Climbs.{Climb, ClimbsOn, HoldsLittle}
 use Rattle.cms_tree.specs.Kept.{Kept}
 use Rattle.cms_tree.specs.Resumes.{IsResumed, kept_of}
 use Rattle.cms_tree.specs.Tiers.{AllKeep, lowest}
 use Rattle.cms_tree.proofs.Behind.{stand_keeps}
 use Rattle.cms_held.specs.Drafts.{Front, filled}
-use Rattle.cms_held.specs.Growing.{last_leaf}
+use Rattle.cms_held.specs.Growths.{last_leaf}
+use Rattle.cms_held.specs.HeldVolumes.{HeldFile, HeldTree, HeldVolume}
 use Rattle.cms_held.specs.Kept.{Keeps}
 use Rattle.cms_held.specs.Marks.{nowhere}
-use Rattle.cms_held.specs.Opening.{HeldFile, HeldTree, HeldVolume}
 use Rattle.cms_held.specs.SharedBlocks.{AreLong}
 use Rattle.cms_held.proofs.BlockBytes.{all_long, piece_by_place}
 use Rattle.cms_held.proofs.Drafted.{fan_is}
-use Rattle.cms_draft.specs.Continuing.{IsInFront}
+use Rattle.cms_draft.specs.BegunFiles.{IsInFront}
 use Rattle.cms_draft.specs.declared.begun.Begun.{Begun}
 use Rattle.cms_draft.specs.declared.shape.DraftShape.{DraftShape}
-use Rattle.cms_edf.specs.Growing.{GrowsAs, IsBegunOf, IsFront, IsGrowthOf}
-use Rattle.cms_edf.specs.declared.growing.Growth.{Growth}
+use Rattle.cms_edf.specs.Growths.{GrowsAs, IsBegunOf, IsFront, IsGrowthOf}
+use Rattle.cms_edf.specs.declared.growth.Growth.{Growth}
 use Rattle.cms_edf.proofs.GrownNumbers.{kept_at, rest_within}
 use Rattle.cms_edf.proofs.Listings.{on_unit}
 
@@ -157,7 +157,7 @@ in_place (x ∷ xs) zero d less = inl refl
 in_place (x ∷ xs) (suc k) d less = inr (in_place xs k d (omega arith))
 
 -- a climb that was resumed by numbers that are those of the file
-pub resumed_as : (told told' : Told) (u u' bsize bsize' psize psize' before before' : ℕ) (ps ps' : List ℕ) (last last' : ℕ) (mark mark' : Mark) (kept leaves : ℕ) (c : Climbing) → told ≡ told'
+pub resumed_as : (told told' : Told) (u u' bsize bsize' psize psize' before before' : ℕ) (ps ps' : List ℕ) (last last' : ℕ) (mark mark' : Mark) (kept leaves : ℕ) (c : Climb) → told ≡ told'
     → u ≡ u' → bsize ≡ bsize' → psize ≡ psize' → before ≡ before' → ps ≡ ps' → last ≡ last' → mark ≡ mark' → IsResumed told u bsize psize before ps last mark kept leaves c
     → IsResumed told' u' bsize' psize' before' ps' last' mark' kept leaves c
 resumed_as told told' u u' bsize bsize' psize psize' before before' ps ps' last last' mark mark' kept leaves c told_is unit size pointer count pointers end mark_is r =

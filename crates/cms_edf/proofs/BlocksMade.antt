@@ -9,10 +9,10 @@ use Rattle.cms_model.specs.DirectoryParts.{blocks_made, blocks_with, directory_c
 use Rattle.cms_model.specs.Lists.{holds}
 use Rattle.cms_map.specs.Bits.{free_blocks}
 use Rattle.cms_map.specs.Touched.{AreTouched}
-use Rattle.cms_held.specs.Allotting.{on_map}
+use Rattle.cms_held.specs.Allotments.{on_map}
+use Rattle.cms_held.specs.HeldVolumes.{HeldTree}
 use Rattle.cms_held.specs.MapShares.{turned, unless_none}
-use Rattle.cms_held.specs.Opening.{HeldTree}
-use Rattle.cms_held.specs.Renewing.{blocks_in}
+use Rattle.cms_held.specs.Renewals.{blocks_in}
 
 -- ---- one more
 

@@ -27,34 +27,34 @@ use Rattle.cms_model.specs.Stands.{opened}
 use Rattle.cms_model.specs.LawsUpdates.{AddsFront, HasEither, IsFront, after, now, to_label, with_label}
 use Rattle.cms_model.proofs.Fronts.{Cut, after_append, cons_front, cut_front, none_front}
 use Rattle.cms_model.proofs.Quotients.{up_below, up_some, up_spec}
-use Rattle.cms_model.proofs.Renewing.{minidisk_is}
-use Rattle.cms_model.proofs.Settling.{settled_is_firm}
+use Rattle.cms_model.proofs.Renewed.{minidisk_is}
+use Rattle.cms_model.proofs.SettledUnits.{settled_is_firm}
 use Rattle.cms_tree.specs.declared.types.Mark.{Mark}
 use Rattle.cms_tree.specs.Builds.{IsBuildable}
 use Rattle.cms_tree.specs.Climbs.{AreOwn, HasEach}
 use Rattle.cms_held.specs.Kept.{IsKeptFile, Keeps}
 use Rattle.cms_held.specs.Marks.{mark_of, start_of, starts_from}
-use Rattle.cms_held.specs.Opening.{HeldFile, HeldTree, HeldVolume, names_in}
+use Rattle.cms_held.specs.HeldVolumes.{HeldFile, HeldTree, HeldVolume, names_in}
 use Rattle.cms_held.specs.Systems.{system_writes}
 use Rattle.cms_held.specs.Drafts.{Front, HasAll, HasDraft, draft_writes, no_front, stored_on}
-use Rattle.cms_held.specs.Renewing.{Edit, entries_held, renewed}
+use Rattle.cms_held.specs.Renewals.{Edit, entries_held, renewed}
 use Rattle.cms_held.specs.Written.{ReadsBack}
-use Rattle.cms_held.specs.LawsRenewing.{writes_of}
-use Rattle.cms_held.specs.Carrying.{Carries, IsHeldMinidisk, written_count}
-use Rattle.cms_held.specs.Putting.{GoesOn, IsPutAs, IsPutReady}
+use Rattle.cms_held.specs.LawsRenewals.{writes_of}
+use Rattle.cms_held.specs.MinidiskUpdates.{Carries, IsHeldMinidisk, written_count}
+use Rattle.cms_held.specs.Puts.{GoesOn, IsPutAs, IsPutReady}
+use Rattle.cms_held.proofs.DraftBlocks.{draft_has_all}
 use Rattle.cms_held.proofs.DraftOwn.{part_own}
-use Rattle.cms_held.proofs.Drafting.{draft_has_all}
 use Rattle.cms_held.proofs.Fronts.{failed_before}
 use Rattle.cms_held.proofs.PutAsides.{free_is_aside}
 use Rattle.cms_held.proofs.PutCarried.{put_is_carried}
 use Rattle.cms_held.proofs.PutSmall.{put_is_small}
-use Rattle.cms_draft.specs.BlockWriting.{CanWrite, Streams, its_blocks, came}
-use Rattle.cms_draft.specs.Drafting.{Drafts, IsDrafting, marks_in, IsMarkedSo, start_in, start_on}
+use Rattle.cms_draft.specs.BlockWriters.{CanWrite, Streams, its_blocks, came}
+use Rattle.cms_draft.specs.FileWriters.{Drafts, IsDrafting, marks_in, IsMarkedSo, start_in, start_on}
 use Rattle.cms_draft.specs.declared.block_writer.BlockWriter.{BlockWriter}
 use Rattle.cms_draft.specs.declared.shape.DraftShape.{DraftShape}
 use Rattle.cms_edf.specs.Doubts.{IsCutOff, Updates, UpdatesSystems}
 use Rattle.cms_edf.specs.EntryShapes.{EndsIn}
-use Rattle.cms_edf.specs.FileDrafts.{CommitEvents, Commits, DraftStands, FileDraft, IsCommitted, IsCommittedAt, IsDraftFor, IsLeft, IsSomeDraft, MakesChange, commit_writes, file_for, list_with, put_in, put_writes, tree_of}
+use Rattle.cms_edf.specs.FileDrafts.{CommitEvents, Commits, DraftStands, Draft, IsCommitted, IsCommittedAt, IsDraftFor, IsLeft, IsSomeDraft, MakesChange, commit_writes, file_for, list_with, put_in, put_writes, tree_of}
 use Rattle.cms_edf.specs.declared.doubt.Doubt.{Doubt}
 use Rattle.cms_edf.specs.declared.doubt.Doubt.TheVariants.{Old, Either}
 use Rattle.cms_edf.proofs.CutOff.{to_label_behind, update_behind, updates_behind}
@@ -63,12 +63,12 @@ use Rattle.cms_edf.proofs.DraftPut.{goes_on, new_is_some, plan_of}
 use Rattle.cms_edf.proofs.EntryTests.{ends_last}
 use Rattle.cms_edf.proofs.Finished.{to_front, told_so, with_front, writes_to}
 use Rattle.cms_edf.proofs.Listings.{fewer_on, on_unit}
-use Rattle.cms_edf.proofs.Starting.{same_quotient}
+use Rattle.cms_edf.proofs.RecordStarts.{same_quotient}
 use Rattle.cms_edf.proofs.Planned.{all_in, left_of, ready_keeps, right_of}
 
 -- ---- the volume after it is kept
 
-kept_file : (v : HeldVolume) (d : FileDraft) (some : IsSomeDraft v d) → IsBlockSize v.disk.bsize
+kept_file : (v : HeldVolume) (d : Draft) (some : IsSomeDraft v d) → IsBlockSize v.disk.bsize
     → IsKeptFile v.disk.bsize v.label.blocks (file_for v.disk.bsize some.name some.shape (tree_of d) (start_in d.writer))
 kept_file v d some size =
     let shape = some.shape in
@@ -104,7 +104,7 @@ kept_file v d some size =
       high = ends.1;
     }
 
-pub commit_keeps : (v : HeldVolume) (d : FileDraft) (some : IsSomeDraft v d) (edit : Edit) → IsBlockSize v.disk.bsize
+pub commit_keeps : (v : HeldVolume) (d : Draft) (some : IsSomeDraft v d) (edit : Edit) → IsBlockSize v.disk.bsize
     → edit.files ≡ list_with v.files (position (same_name some.name) (names_in v.files)) (file_for v.disk.bsize some.name some.shape (tree_of d) (start_in d.writer)) → Keeps (renewed v edit d.systems)
 commit_keeps v d some edit size files =
     let start = start_in d.writer in
@@ -126,7 +126,7 @@ each_there units u total count size (n ∷ ns) top has all =
     All-cons (λ n. HasBlock units u n size) n ns (on_unit units u count size n (omega arith) (omega arith) has)
     (each_there units u total count size ns top has (All-tail (λ n. (6 ≤ n) × (n ≤ total)) n ns all))
 
-pub can_write : (units : List Attached) (v : HeldVolume) (d : FileDraft) → IsSomeDraft v d → HasBlocks units v.unit v.disk.count v.disk.bsize → IsWritable units v.unit → CanWrite units d.writer.writer
+pub can_write : (units : List Attached) (v : HeldVolume) (d : Draft) → IsSomeDraft v d → HasBlocks units v.unit v.disk.count v.disk.bsize → IsWritable units v.unit → CanWrite units d.writer.writer
 can_write units v d some has may =
     let P = λ (n : ℕ). (6 ≤ n) × (n ≤ v.label.blocks) in
     let top = (some.ready (start_in d.writer)).kept.within in
@@ -138,7 +138,7 @@ can_write units v d some has may =
       writable = subst (λ (u : ℕ). IsWritable units u) (sym some.unit_is) may;
     }
 
-pub system_there : (units : List Attached) (v : HeldVolume) (d : FileDraft) → IsSomeDraft v d → HasBlocks units v.unit v.disk.count v.disk.bsize
+pub system_there : (units : List Attached) (v : HeldVolume) (d : Draft) → IsSomeDraft v d → HasBlocks units v.unit v.disk.count v.disk.bsize
     → HasBlocks units v.unit d.systems.label.blocks (length d.systems.label_bytes)
 system_there units v d some has =
     let ready = some.ready (start_in d.writer) in
@@ -149,7 +149,7 @@ system_there units v d some has =
 -- ---- the events
 
 -- all that is left of the file was written, and then the update
-pub events_behind : (old mid new : Told) (v : HeldVolume) (d : FileDraft) (rest : List Write) (r : Result ⊤ Doubt) → IsSomeDraft v d → mid ≡ plus old (writes d.writer.writer.unit rest)
+pub events_behind : (old mid new : Told) (v : HeldVolume) (d : Draft) (rest : List Write) (r : Result ⊤ Doubt) → IsSomeDraft v d → mid ≡ plus old (writes d.writer.writer.unit rest)
     → UpdatesSystems mid new v.unit d.systems r → CommitEvents old new v d rest r
 events_behind old mid new v d rest r some before ups =
     let size : system_writes (length d.systems.label_bytes) d.systems ≡ writes_of v d.systems = ap (λ (n : ℕ). system_writes n d.systems) some.label_long in
@@ -157,7 +157,7 @@ events_behind old mid new v d rest r some before ups =
     (subst (λ (ws : List Write). Updates mid new v.unit ws d.systems.label_bytes r) size ups)
 
 -- a part of what is left failed
-pub events_failed : (old new : Told) (v : HeldVolume) (d : FileDraft) (rest : List Write) → IsSomeDraft v d → AddsFront old new (writes d.writer.writer.unit rest)
+pub events_failed : (old new : Told) (v : HeldVolume) (d : Draft) (rest : List Write) → IsSomeDraft v d → AddsFront old new (writes d.writer.writer.unit rest)
     → CommitEvents old new v d rest (Err Old)
 events_failed old new v d rest some f = failed_before old new v.unit rest (writes_of v d.systems) (subst (λ (u : ℕ). AddsFront old new (writes u rest)) some.unit_is f)
 
@@ -184,23 +184,23 @@ held_either k v m other held image may =
     inl (firm image may ∙ ap Volume (minidisk_is v.disk held.layout ∙ sym held.minidisk_is))
 
 -- the change is made, and the new minidisk is held then
-pub record Whole (j : Journal) (v : HeldVolume) (m : Minidisk) (d : FileDraft) (edit : Edit) (done rest : List Write) (change : Change) : Type 0 where
+pub record Whole (j : Journal) (v : HeldVolume) (m : Minidisk) (d : Draft) (edit : Edit) (done rest : List Write) (change : Change) : Type 0 where
   pub makes : MakesChange j v d done rest m change
   pub held : IsHeldMinidisk (after j (update v.unit (commit_writes v d rest) d.systems.label_bytes)) (renewed v edit d.systems) (changed m change)
 
 -- an update that is carried out behind the blocks of the file that were left, with what it writes in all
-pub record CarriesBehind (j : Journal) (v : HeldVolume) (m : Minidisk) (d : FileDraft) (edit : Edit) (done rest : List Write) (change : Change) : Type 0 where
+pub record CarriesBehind (j : Journal) (v : HeldVolume) (m : Minidisk) (d : Draft) (edit : Edit) (done rest : List Write) (change : Change) : Type 0 where
   pub carries : Carries (after j (writes v.unit rest)) v edit d.systems m change
   pub small : written_count (update v.unit (done ++ commit_writes v d rest) d.systems.label_bytes) ≤ need m change + 2
 
 -- all of its bytes and marks are those of the records
-pub all_streams : (d : FileDraft) (front : Front) (records : List (List ℕ)) → Drafts d.writer front records []
+pub all_streams : (d : Draft) (front : Front) (records : List (List ℕ)) → Drafts d.writer front records []
     → Streams d.writer.writer front.nodes (stored_on d.writer.shape.format front records) (marks_in d.writer front records)
 all_streams d front records h =
     subst (λ (l : List (List ℕ)). Streams d.writer.writer front.nodes (stored_on d.writer.shape.format front l) (marks_in d.writer front l)) (append-nil records) h.streams
 
 -- what is left of a draft is written to its own blocks
-pub left_own : (d : FileDraft) (front : Front) (records : List (List ℕ)) (rest : List Write) → IsDrafting d.writer → Drafts d.writer front records [] → IsLeft d front records rest
+pub left_own : (d : Draft) (front : Front) (records : List (List ℕ)) (rest : List Write) → IsDrafting d.writer → Drafts d.writer front records [] → IsLeft d front records rest
     → AreOwn d.writer.writer.bsize (its_blocks d.writer.writer) rest
 left_own d front records rest kept h left =
     let w = d.writer.writer in
@@ -211,13 +211,13 @@ left_own d front records rest kept h left =
     part_own w.bsize w.psize w.tree.leaves marks w.tree.pointers w.kept front.nodes bytes w.whole (length w.tree.leaves) rest plan streams.keeps (omega arith) left.is
 
 -- the blocks of the file were all written, and the minidisk stands
-pub record AllStands (j : Journal) (v : HeldVolume) (m : Minidisk) (d : FileDraft) (front : Front) (records : List (List ℕ)) (rest : List Write) : Type 0 where
+pub record AllStands (j : Journal) (v : HeldVolume) (m : Minidisk) (d : Draft) (front : Front) (records : List (List ℕ)) (rest : List Write) : Type 0 where
   pub aside : (q : List Event) → IsFront q (writes v.unit rest) → IsHeldMinidisk (after j q) v m
   pub held : IsHeldMinidisk (after j (writes v.unit rest)) v m
   pub has : HasDraft (now (after j (writes v.unit rest)) v.unit) v.disk.bsize d.writer.writer.psize (tree_of d).leaves (marks_in d.writer front records) (tree_of d).pointers d.writer.writer.kept
       front.nodes (stored_on d.writer.shape.format front records) (length (tree_of d).leaves)
 
-pub all_stands : (j : Journal) (v : HeldVolume) (m : Minidisk) (d : FileDraft) (some : IsSomeDraft v d) (front : Front) (records : List (List ℕ)) (rest : List Write) → IsHeldMinidisk j v m
+pub all_stands : (j : Journal) (v : HeldVolume) (m : Minidisk) (d : Draft) (some : IsSomeDraft v d) (front : Front) (records : List (List ℕ)) (rest : List Write) → IsHeldMinidisk j v m
     → IsDrafting d.writer → Drafts d.writer front records [] → DraftStands j d.writer front records → IsLeft d front records rest → AllStands j v m d front records rest
 all_stands j v m d some front records rest held kept h stands left = record {
   aside = aside;
@@ -244,7 +244,7 @@ all_stands j v m d some front records rest held kept h stands left = record {
         (subst (λ (n : ℕ). AreOwn n (its_blocks w) rest) some.bsize_is (left_own d front records rest kept h left)) front'
 
 -- behind the blocks that were left the update is the change
-pub whole_behind : (j : Journal) (v : HeldVolume) (m : Minidisk) (d : FileDraft) (edit : Edit) (done rest : List Write) (change : Change)
+pub whole_behind : (j : Journal) (v : HeldVolume) (m : Minidisk) (d : Draft) (edit : Edit) (done rest : List Write) (change : Change)
     → ((q : List Event) → IsFront q (writes v.unit rest) → IsHeldMinidisk (after j q) v m) → CarriesBehind j v m d edit done rest change → Whole j v m d edit done rest change
 whole_behind j v m d edit done rest change aside c = record {
   makes = record { answer = c.carries.answer; before = before; either = either; small = c.small };
@@ -282,7 +282,7 @@ start_so V w records mark came_is less =
     ap (λ (m : Mark). m.place) mark ∙ ap (λ (k : ℕ). (mark_of w.bsize (starts_from 0 records) k).place) whole
 
 -- the file with these records
-put_as : (v : HeldVolume) (d : FileDraft) (name : Name) (shape : DraftShape) (stamp : Stamp) (p : IsDraftFor v name shape stamp d) (records : List (List ℕ)) → IsDrafting d.writer
+put_as : (v : HeldVolume) (d : Draft) (name : Name) (shape : DraftShape) (stamp : Stamp) (p : IsDraftFor v name shape stamp d) (records : List (List ℕ)) → IsDrafting d.writer
     → Drafts d.writer no_front records [] → length_of shape.format shape.length records ≡ shape.length → IsPutAs v.disk.bsize (file_for v.disk.bsize name shape (tree_of d) (start_in d.writer)) (put_in d records)
 put_as v d name shape stamp p records kept h longest =
     let at = p.file (start_in d.writer) in
@@ -320,7 +320,7 @@ put_as v d name shape stamp p records kept h longest =
       passes_all = at.passes_all;
     }
 
-pub put_whole : (j : Journal) (v : HeldVolume) (m : Minidisk) (d : FileDraft) (name : Name) (shape : DraftShape) (stamp : Stamp) (p : IsDraftFor v name shape stamp d) (records : List (List ℕ))
+pub put_whole : (j : Journal) (v : HeldVolume) (m : Minidisk) (d : Draft) (name : Name) (shape : DraftShape) (stamp : Stamp) (p : IsDraftFor v name shape stamp d) (records : List (List ℕ))
     (rest : List Write) → IsHeldMinidisk j v m → IsDrafting d.writer → Drafts d.writer no_front records [] → length_of shape.format shape.length records ≡ shape.length
     → DraftStands j d.writer no_front records → IsLeft d no_front records rest
     → Whole j v m d (p.file (start_in d.writer)).edit (put_writes d no_front records) rest (Put (put_in d records))
@@ -394,7 +394,7 @@ put_whole j v m d name shape stamp p records rest held kept h longest stands lef
 
 -- ---- what it comes to
 
-commits_of : (j : Journal) (new : Told) (v w : HeldVolume) (m : Minidisk) (d : FileDraft) (edit : Edit) (done rest : List Write) (change : Change) (r : Result ⊤ Doubt)
+commits_of : (j : Journal) (new : Told) (v w : HeldVolume) (m : Minidisk) (d : Draft) (edit : Edit) (done rest : List Write) (change : Change) (r : Result ⊤ Doubt)
     → Whole j v m d edit done rest change
     → CommitEvents (Some j) new v d rest r → OnOk r (w ≡ renewed v edit d.systems) → Commits j new v w m d done rest change r
 commits_of j new v w m d edit done rest change (Ok x) whole told leads = (
@@ -418,7 +418,7 @@ commits_of j new v w m d edit done rest change (Err Either) whole (inr told) lea
 )
 
 -- at a told journal, where all of it is this change
-pub committed_at : (j : Journal) (old new : Told) (v w : HeldVolume) (m : Minidisk) (d : FileDraft) (edit : Edit) (front : Front) (records : List (List ℕ)) (change : Change) (r : Result ⊤ Doubt)
+pub committed_at : (j : Journal) (old new : Told) (v w : HeldVolume) (m : Minidisk) (d : Draft) (edit : Edit) (front : Front) (records : List (List ℕ)) (change : Change) (r : Result ⊤ Doubt)
     → old ≡ Some j → (c : IsCommitted old new v d front records r) → Whole j v m d edit (put_writes d front records) c.rest change → OnOk r (w ≡ renewed v edit d.systems)
     → IsCommittedAt j new v w m d front records change r
 committed_at j old new v w m d edit front records change r is c whole leads = record {
@@ -443,7 +443,7 @@ built : (g : HeldFile) (e : Entry) (t : HeldTree) (long bytes start : ℕ) → e
 built g e t long bytes start a b c d s = λ i. record { entry = a i; tree = b i; length = c i; size = d i; start = s i }
 
 -- an edit of these files is one that puts it
-pub same_files : (v : HeldVolume) (d : FileDraft) (some : IsSomeDraft v d) (t : HeldTree) (long bytes start : ℕ) → t ≡ tree_of d → long ≡ d.writer.shape.length → bytes ≡ d.writer.shape.bytes → start ≡ start_in d.writer
+pub same_files : (v : HeldVolume) (d : Draft) (some : IsSomeDraft v d) (t : HeldTree) (long bytes start : ℕ) → t ≡ tree_of d → long ≡ d.writer.shape.length → bytes ≡ d.writer.shape.bytes → start ≡ start_in d.writer
     → list_with v.files (position (same_name d.entry.name) (names_in v.files)) (record { entry = d.entry; tree = t; length = long; size = bytes; start = start })
     ≡ list_with v.files (position (same_name some.name) (names_in v.files)) (file_for v.disk.bsize some.name some.shape (tree_of d) (start_in d.writer))
 same_files v d some t long bytes start tree size count begun =

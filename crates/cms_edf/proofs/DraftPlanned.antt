@@ -21,7 +21,7 @@ use Rattle.cms_fields.specs.declared.time.Stamp.{Stamp}
 use Rattle.cms_model.specs.DirectoryParts.{blocks_made, directory_count}
 use Rattle.cms_model.specs.Lists.{In, times}
 use Rattle.cms_model.specs.Minidisks.{same_name}
-use Rattle.cms_model.specs.Sharing.{MayBeWritten}
+use Rattle.cms_model.specs.SharedTrees.{MayBeWritten}
 use Rattle.cms_model.specs.Sizes.{levels, pointer_count, tree_size}
 use Rattle.cms_model.proofs.FileSizes.{fan_wide, passes_from}
 use Rattle.cms_model.proofs.Quotients.{up_below, up_some, up_spec}
@@ -30,22 +30,22 @@ use Rattle.cms_model.proofs.Shapes.{shape_least}
 use Rattle.cms_map.specs.Bits.{HasFixed, free_blocks}
 use Rattle.cms_map.proofs.Free.{free_are_unused}
 use Rattle.cms_held.proofs.Renewals.{all_of}
-use Rattle.cms_held.specs.Allotting.{IsPlanned}
+use Rattle.cms_held.specs.Allotments.{IsPlanned}
 use Rattle.cms_held.specs.EntryPlaces.{IsEnoughFor}
 use Rattle.cms_held.specs.Kept.{IsSized, Keeps}
-use Rattle.cms_held.specs.Opening.{HeldFile, HeldTree, HeldVolume, names_in}
+use Rattle.cms_held.specs.HeldVolumes.{HeldFile, HeldTree, HeldVolume, names_in}
 use Rattle.cms_held.specs.Systems.{Systems}
-use Rattle.cms_held.specs.Renewing.{Edit, blocks_in, entries_held, needed}
-use Rattle.cms_held.specs.Putting.{AreFree, IsPutOf, adding, adds, count_put, count_with, limit_put, made_put, made_with, need_put, replaces, replacing}
+use Rattle.cms_held.specs.Renewals.{Edit, blocks_in, entries_held, needed}
+use Rattle.cms_held.specs.Puts.{AreFree, IsPutOf, adding, adds, count_put, count_with, limit_put, made_put, made_with, need_put, replaces, replacing}
 use Rattle.cms_held.proofs.MapMarks.{take_fewer}
 use Rattle.cms_draft.specs.declared.shape.DraftShape.{DraftShape}
 use Rattle.cms_held.specs.SharedBlocks.{fresh_of}
 use Rattle.cms_held.specs.Written.{ReadsBack}
-use Rattle.cms_edf.specs.Allotting.{IsAllottedFor, all_fresh, given_back, need_of, own_fresh, numbers_made}
+use Rattle.cms_edf.specs.Allotments.{IsAllottedFor, all_fresh, given_back, need_of, own_fresh, numbers_made}
 use Rattle.cms_edf.specs.declared.allotment.Allotment.{Allotment}
 use Rattle.cms_edf.specs.declared.allotment.Exchange.{Exchange}
+use Rattle.cms_edf.specs.ChangePlans.{AreEnoughFor, IsFilled}
 use Rattle.cms_edf.specs.FileDrafts.{CanDraft, GivenAt, IsFilePlanned, IsPlaceIn, list_with, entry_for, file_for}
-use Rattle.cms_edf.specs.Planning.{AreEnoughFor, IsFilled}
 use Rattle.cms_edf.proofs.AllottedParts.{Asks, planned_of}
 use Rattle.cms_edf.proofs.EditsEnough.{put_enough}
 use Rattle.cms_edf.proofs.Planned.{back_at, entries_count, named_at, set_there}

@@ -20,26 +20,26 @@ use Rattle.cms_model.proofs.Quotients.{up_spec}
 use Rattle.cms_tree.specs.declared.types.Mark.{Mark}
 use Rattle.cms_tree.specs.Builds.{IsBuildable}
 use Rattle.cms_tree.specs.Climbs.{AreOwn}
-use Rattle.cms_held.specs.Growing.{growing}
-use Rattle.cms_held.specs.Opening.{HeldFile, HeldTree, HeldVolume, names_in}
-use Rattle.cms_held.specs.Carrying.{IsHeldMinidisk}
+use Rattle.cms_held.specs.Growths.{growing}
+use Rattle.cms_held.specs.HeldVolumes.{HeldFile, HeldTree, HeldVolume, names_in}
+use Rattle.cms_held.specs.MinidiskUpdates.{IsHeldMinidisk}
 use Rattle.cms_tree.specs.Kept.{Kept}
 use Rattle.cms_held.specs.Drafts.{Front, HasDraft, draft_writes, own_blocks, stored_on}
-use Rattle.cms_held.specs.Renewing.{Edit, blocks_in}
-use Rattle.cms_held.specs.Putting.{AreFree, GoesOn, count_put}
+use Rattle.cms_held.specs.Renewals.{Edit, blocks_in}
+use Rattle.cms_held.specs.Puts.{AreFree, GoesOn, count_put}
 use Rattle.cms_draft.specs.declared.shape.DraftShape.{DraftShape}
 use Rattle.cms_edf.proofs.GrownOnce.{grown_once}
 use Rattle.cms_held.proofs.MapMarks.{free_once}
 use Rattle.cms_held.proofs.PutAsides.{draft_goes_on, free_is_aside}
-use Rattle.cms_draft.specs.BlockWriting.{AddsOwnBlocks, IsSame, IsWriter, Streams, came, its_blocks, written_with}
-use Rattle.cms_draft.specs.Drafting.{Drafting, Drafts, IsDrafting, Puts, marks_in}
+use Rattle.cms_draft.specs.BlockWriters.{AddsOwnBlocks, IsSame, IsWriter, Streams, came, its_blocks, written_with}
+use Rattle.cms_draft.specs.FileWriters.{FileWriter, Drafts, IsDrafting, Puts, marks_in}
 use Rattle.cms_draft.specs.declared.block_writer.BlockWriter.{BlockWriter}
-use Rattle.cms_edf.specs.FileDrafts.{DraftStands, FileDraft, IsDraftFor, IsFilePlanned, IsSomeDraft, StandsThen, StaysHeld, entry_for, file_for, list_with, tree_of}
-use Rattle.cms_edf.specs.Growing.{IsGrowthPlanned, IsMoreFor, kept_in}
+use Rattle.cms_edf.specs.FileDrafts.{DraftStands, Draft, IsDraftFor, IsFilePlanned, IsSomeDraft, StandsThen, StaysHeld, entry_for, file_for, list_with, tree_of}
+use Rattle.cms_edf.specs.Growths.{IsGrowthPlanned, IsMoreFor, kept_in}
 use Rattle.cms_edf.proofs.Finished.{told_so}
 
 -- what a draft adds leaves the volume held
-pub stays_held : (j : Journal) (old new : Told) (v : HeldVolume) (m : Minidisk) (d : FileDraft) → old ≡ Some j → IsHeldMinidisk j v m → IsSomeDraft v d → AddsOwnBlocks old new d.writer.writer
+pub stays_held : (j : Journal) (old new : Told) (v : HeldVolume) (m : Minidisk) (d : Draft) → old ≡ Some j → IsHeldMinidisk j v m → IsSomeDraft v d → AddsOwnBlocks old new d.writer.writer
     → StaysHeld j new v m
 stays_held j old new v m d is held some own =
     let p = some in
@@ -57,7 +57,7 @@ plan_of w es bytes marks is s = subst (λ (b : ℕ). IsBuildable b w.psize w.tre
     (subst (λ (p : ℕ). IsBuildable w.climb.bsize p w.tree.leaves marks w.tree.pointers) is.climb_pointer s.climbs.plan)
 
 -- a part of a draft that is written
-pub goes_on : (j : Journal) (v : HeldVolume) (m : Minidisk) (d : FileDraft) (es : List Kept) (bytes : List ℕ) (marks : List Mark) (from to : ℕ) (part : List Write) → IsHeldMinidisk j v m
+pub goes_on : (j : Journal) (v : HeldVolume) (m : Minidisk) (d : Draft) (es : List Kept) (bytes : List ℕ) (marks : List Mark) (from to : ℕ) (part : List Write) → IsHeldMinidisk j v m
     → IsSomeDraft v d
     → IsBuildable d.writer.writer.bsize d.writer.writer.psize d.writer.writer.tree.leaves marks d.writer.writer.tree.pointers → to ≤ length d.writer.writer.tree.leaves
     → written_with d.writer.writer es bytes marks from ++ part ≡ written_with d.writer.writer es bytes marks to
@@ -110,7 +110,7 @@ blocks_there w to upto is low room = ⊎_elim
     next a b = grind arith
 
 -- what is written of it stands
-pub stands_then : (j : Journal) (old new : Told) (v : HeldVolume) (m : Minidisk) (d : FileDraft) (d' : Drafting) (front : Front) (records more : List (List ℕ)) (text : List ℕ) (r : Result ⊤ Failed)
+pub stands_then : (j : Journal) (old new : Told) (v : HeldVolume) (m : Minidisk) (d : Draft) (d' : FileWriter) (front : Front) (records more : List (List ℕ)) (text : List ℕ) (r : Result ⊤ Failed)
     → old ≡ Some j
     → IsHeldMinidisk j v m → IsSomeDraft v d → IsDrafting d.writer → IsDrafting d' → IsSame d.writer.writer d'.writer → d'.shape ≡ d.writer.shape
     → came d.writer.writer + length (stored d.writer.shape.format (text ∷ [])) ≤ d.writer.writer.size
@@ -139,7 +139,7 @@ stands_then j old new v m d d' front records more text (Err e) is held some kept
     told_so j new stops.front.front (λ k. DraftStands k d.writer front all) (stops.front.told ∙ ap (λ (t : Told). plus t stops.front.front) is) (g.stays stops.front.front stops.front.is)
 
 -- it stays the draft of its file
-pub planned_still : (v : HeldVolume) (d : FileDraft) (d' : Drafting) → IsSame d.writer.writer d'.writer → d'.shape ≡ d.writer.shape → IsSomeDraft v d
+pub planned_still : (v : HeldVolume) (d : Draft) (d' : FileWriter) → IsSame d.writer.writer d'.writer → d'.shape ≡ d.writer.shape → IsSomeDraft v d
     → IsSomeDraft v (record { entry = d.entry; writer = d'; systems = d.systems })
 planned_still v d d' same shape some =
     let tree = same.tree in
@@ -169,7 +169,7 @@ planned_still v d d' same shape some =
     }
 
 -- so does one of a file that is put
-pub new_still : (v : HeldVolume) (name : Name) (shape : DraftShape) (stamp : Stamp) (d : FileDraft) (d' : Drafting) → IsSame d.writer.writer d'.writer → d'.shape ≡ d.writer.shape
+pub new_still : (v : HeldVolume) (name : Name) (shape : DraftShape) (stamp : Stamp) (d : Draft) (d' : FileWriter) → IsSame d.writer.writer d'.writer → d'.shape ≡ d.writer.shape
     → IsDraftFor v name shape stamp d → IsDraftFor v name shape stamp (record { entry = d.entry; writer = d'; systems = d.systems })
 new_still v name shape stamp d d' same shaped p =
     let tree = same.tree in
@@ -184,7 +184,7 @@ new_still v name shape stamp d d' same shaped p =
     }
 
 -- and one of records that are added to a file
-pub more_still : (v : HeldVolume) (name : Name) (f : HeldFile) (shape : DraftShape) (stamp : Stamp) (d : FileDraft) (d' : Drafting) → IsSame d.writer.writer d'.writer → d'.shape ≡ d.writer.shape
+pub more_still : (v : HeldVolume) (name : Name) (f : HeldFile) (shape : DraftShape) (stamp : Stamp) (d : Draft) (d' : FileWriter) → IsSame d.writer.writer d'.writer → d'.shape ≡ d.writer.shape
     → IsMoreFor v name f shape stamp d → IsMoreFor v name f shape stamp (record { entry = d.entry; writer = d'; systems = d.systems })
 more_still v name f shape stamp d d' same shaped p =
     let tree = same.tree in
@@ -200,7 +200,7 @@ more_still v name f shape stamp d d' same shaped p =
 
 -- ---- the draft of either kind is one that is planned
 
-pub new_is_some : (v : HeldVolume) (name : Name) (shape : DraftShape) (stamp : Stamp) (d : FileDraft) → IsDraftFor v name shape stamp d → IsSomeDraft v d
+pub new_is_some : (v : HeldVolume) (name : Name) (shape : DraftShape) (stamp : Stamp) (d : Draft) → IsDraftFor v name shape stamp d → IsSomeDraft v d
 new_is_some v name shape stamp d p =
     let at = p.file 0 in
     record {
@@ -228,17 +228,17 @@ new_is_some v name shape stamp d p =
     }
 
 -- its edit is the planned one
-pub new_edit_is : (v : HeldVolume) (name : Name) (shape : DraftShape) (stamp : Stamp) (d : FileDraft) (p : IsDraftFor v name shape stamp d) (start : ℕ)
+pub new_edit_is : (v : HeldVolume) (name : Name) (shape : DraftShape) (stamp : Stamp) (d : Draft) (p : IsDraftFor v name shape stamp d) (start : ℕ)
     → (new_is_some v name shape stamp d p).edit start ≡ (p.file start).edit
 unfolding new_is_some
 new_edit_is v name shape stamp d p start = refl
 
 -- the edit of a file that grows
-abbrev pub more_edit : (v : HeldVolume) (name : Name) (f : HeldFile) (shape : DraftShape) (stamp : Stamp) (d : FileDraft) → IsMoreFor v name f shape stamp d → ℕ → Edit
+abbrev pub more_edit : (v : HeldVolume) (name : Name) (f : HeldFile) (shape : DraftShape) (stamp : Stamp) (d : Draft) → IsMoreFor v name f shape stamp d → ℕ → Edit
 more_edit v name f shape stamp d p start =
     growing v.disk.bsize v.files (p.file start).place f (file_for v.disk.bsize name shape (tree_of d) start)
 
-pub more_is_some : (v : HeldVolume) (name : Name) (f : HeldFile) (shape : DraftShape) (stamp : Stamp) (d : FileDraft) → IsMoreFor v name f shape stamp d → IsSomeDraft v d
+pub more_is_some : (v : HeldVolume) (name : Name) (f : HeldFile) (shape : DraftShape) (stamp : Stamp) (d : Draft) → IsMoreFor v name f shape stamp d → IsSomeDraft v d
 more_is_some v name f shape stamp d p =
     let at = p.file 0 in
     record {
@@ -267,7 +267,7 @@ more_is_some v name f shape stamp d p =
     }
 
 -- its edit is that of the growth
-pub more_edit_is : (v : HeldVolume) (name : Name) (f : HeldFile) (shape : DraftShape) (stamp : Stamp) (d : FileDraft) (p : IsMoreFor v name f shape stamp d) (start : ℕ)
+pub more_edit_is : (v : HeldVolume) (name : Name) (f : HeldFile) (shape : DraftShape) (stamp : Stamp) (d : Draft) (p : IsMoreFor v name f shape stamp d) (start : ℕ)
     → (more_is_some v name f shape stamp d p).edit start ≡ more_edit v name f shape stamp d p start
 unfolding more_is_some
 more_edit_is v name f shape stamp d p start = refl

@@ -5,13 +5,13 @@ use Rattle.cms_journal.specs.Journal.{IsBlockSize}
 use Rattle.cms_fields.specs.declared.entry.Entry.{Entry}
 use Rattle.cms_model.specs.DirectoryParts.{all_entries, blocks_made}
 use Rattle.cms_held.specs.EntryPlaces.{IsEnoughFor}
-use Rattle.cms_held.specs.Opening.{HeldFile, HeldVolume}
-use Rattle.cms_held.specs.Putting.{made_with}
-use Rattle.cms_held.specs.Renewing.{Edit, dropping, entries_held, moved_file, moving, renamed, renaming}
+use Rattle.cms_held.specs.HeldVolumes.{HeldFile, HeldVolume}
+use Rattle.cms_held.specs.Puts.{made_with}
+use Rattle.cms_held.specs.Renewals.{Edit, dropping, entries_held, moved_file, moving, renamed, renaming}
 use Rattle.cms_held.proofs.EntryPlaces.{all_are_enough, edits_have_places, places_are_enough}
+use Rattle.cms_edf.specs.ChangePlans.{DoesTo, Edited, made_by}
+use Rattle.cms_edf.specs.ChangePlans as edits
 use Rattle.cms_edf.specs.FileDrafts.{list_with}
-use Rattle.cms_edf.specs.Planning.{DoesTo, Edited, made_by}
-use Rattle.cms_edf.specs.Planning as edits
 use Rattle.cms_edf.proofs.Planned.{entries_count}
 use Rattle.cms_edf.specs.declared.change.FileEdit.{FileEdit}
 

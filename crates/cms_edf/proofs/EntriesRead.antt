@@ -8,7 +8,7 @@ use Rattle.cms_model.specs.Lists.{cut}
 use Rattle.cms_model.specs.Volumes.{as_read, blamed, entries_of}
 use Rattle.cms_model.specs.declared.fault.OpenFault.{OpenFault}
 use Rattle.cms_model.specs.declared.fault.OpenFault.TheVariants as failed
-use Rattle.cms_held.specs.Opening.{IsFaultOf}
+use Rattle.cms_held.specs.HeldVolumes.{IsFaultOf}
 use Rattle.cms_edf.specs.OpeningSteps.{behind}
 use Rattle.cms_edf.proofs.Faults.{fault_is}
 use Rattle.cms_edf.proofs.FileTrees.{behind_more, behind_none}

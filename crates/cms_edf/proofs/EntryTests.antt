@@ -18,7 +18,7 @@ use Rattle.cms_fields.specs.declared.entry.Entry.{Entry}
 use Rattle.cms_model.specs.Volumes.{as_read, blamed, entries_of}
 use Rattle.cms_model.specs.declared.fault.OpenFault.TheVariants as failed
 use Rattle.cms_model.proofs.Results.{ok_same, bind_then}
-use Rattle.cms_model.proofs.Opening.{blamed_ok}
+use Rattle.cms_model.proofs.OpenedVolumes.{blamed_ok}
 use Rattle.cms_model.proofs.Quotients.{up_spec}
 use Rattle.cms_model.proofs.Shapes.{shape_least}
 use Rattle.cms_model.proofs.TreeFrame.{between}

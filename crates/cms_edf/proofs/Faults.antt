@@ -2,7 +2,7 @@
 use Rattle.std.proofs.Common.{◌≡◌, ◌⊎◌, inl, inr, Result, Err, sym, subst}
 use Rattle.cms_model.specs.declared.fault.OpenFault.{OpenFault}
 use Rattle.cms_model.specs.declared.fault.OpenFault.TheVariants as failed
-use Rattle.cms_held.specs.Opening.{IsFaultOf}
+use Rattle.cms_held.specs.HeldVolumes.{IsFaultOf}
 
 -- what is found is a fault
 pub fault_is : {A : Type 0} (found : Result A OpenFault) (why : OpenFault) → found ≡ Err why → IsFaultOf found why

@@ -15,8 +15,8 @@ use Rattle.cms_model.specs.declared.fault.OpenFault.{OpenFault}
 use Rattle.cms_tree.specs.Walks.{tree_at, nodes, nodes_at, image_at}
 use Rattle.cms_tree.specs.declared.types.TreeAt.{TreeAt}
 use Rattle.cms_tree.specs.declared.types.Walked.{Walked}
-use Rattle.cms_edf.specs.declared.open.Place.{Place}
-use Rattle.cms_held.specs.Opening.{IsFaultOf}
+use Rattle.cms_edf.specs.declared.listing.Place.{Place}
+use Rattle.cms_held.specs.HeldVolumes.{IsFaultOf}
 use Rattle.cms_edf.specs.OpeningSteps.{met_in, behind, ReadsTree}
 use Rattle.cms_edf.specs.EntryShapes.{HasShape}
 use Rattle.cms_edf.specs.OpeningFiles.{file_at, file_tree, file_nodes, pointers_in, ReadsFile, HasFiles, HaveCounts, entry_sizes, walked_sizes}

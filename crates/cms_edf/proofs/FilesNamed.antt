@@ -11,7 +11,7 @@ use Rattle.cms_model.specs.Sizes.{pointer_count}
 use Rattle.cms_edf.specs.declared.contents.RecordsTold.{RecordsTold}
 use Rattle.cms_tree.specs.Walks.{AreWithin}
 use Rattle.cms_tree.specs.declared.types.Walked.{Walked}
-use Rattle.cms_held.specs.Opening.{HeldFile, Holding, by_name, names_in}
+use Rattle.cms_held.specs.HeldVolumes.{HeldFile, Held, by_name, names_in}
 use Rattle.cms_edf.specs.EntryShapes.{EndsIn, HasSize}
 use Rattle.cms_held.specs.Kept.{IsKeptFile, IsSized}
 use Rattle.cms_held.specs.Written.{ReadsBack}
@@ -27,8 +27,8 @@ values_named [] = refl
 values_named (f ∷ fs) = ap (λ (l : List HeldFile). f ∷ l) (values_named fs)
 
 -- the keys of a map of the files that are held
-pub keys_held : (es : List (Name × HeldFile)) (inside h : Holding) → es ≡ by_name inside.volume.files → inside ≡ h → keys_of es ≡ names_in h.volume.files
-keys_held es inside h named is = ap keys_of named ∙ (keys_named inside.volume.files ∙ ap (λ (x : Holding). names_in x.volume.files) is)
+pub keys_held : (es : List (Name × HeldFile)) (inside h : Held) → es ≡ by_name inside.volume.files → inside ≡ h → keys_of es ≡ names_in h.volume.files
+keys_held es inside h named is = ap keys_of named ∙ (keys_named inside.volume.files ∙ ap (λ (x : Held). names_in x.volume.files) is)
 
 -- one more
 pub values_next : (es es' : List (Name × HeldFile)) (f : HeldFile) → es' ≡ es ++ ((f.entry.name, f) ∷ []) → values_of es' ≡ values_of es ++ (f ∷ [])

@@ -6,7 +6,7 @@ use Rattle.indexmap.specs.IndexMap.{insert_entry, set_value_at}
 use Rattle.indexmap.proofs.MapLemmas.{Found-position, absent_from_lookup, insert_entry-absent, insert_entry-first}
 use Rattle.cms_names.specs.declared.name.Name.{Name}
 use Rattle.cms_model.specs.Minidisks.{is_named, same_name}
-use Rattle.cms_held.specs.Opening.{HeldFile, by_name, names_in}
+use Rattle.cms_held.specs.HeldVolumes.{HeldFile, by_name, names_in}
 use Rattle.cms_edf.specs.FileDrafts.{list_with}
 use Rattle.cms_edf.proofs.FilesNamed.{keys_named, values_named}
 use Rattle.cms_edf.proofs.NamesMet.{none_there, place_there, same_as}

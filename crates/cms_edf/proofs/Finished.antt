@@ -19,16 +19,16 @@ use Rattle.cms_model.specs.Settled.{Write, update, writes}
 use Rattle.cms_model.specs.Stands.{Layout, minidisk_in, opened}
 use Rattle.cms_model.specs.LawsUpdates.{HasEither, IsFront, after, relabel, to_label, with_label}
 use Rattle.cms_model.proofs.Fronts.{after_is_told}
-use Rattle.cms_model.proofs.Opening.{state_opens}
-use Rattle.cms_model.proofs.Renewing.{minidisk_is}
-use Rattle.cms_held.specs.Opening.{HeldVolume}
+use Rattle.cms_model.proofs.OpenedVolumes.{state_opens}
+use Rattle.cms_model.proofs.Renewed.{minidisk_is}
+use Rattle.cms_held.specs.HeldVolumes.{HeldVolume}
 use Rattle.cms_held.specs.Kept.{IsKeptFile, Keeps}
-use Rattle.cms_held.specs.Carrying.{Carries, IsHeldMinidisk, written_count}
+use Rattle.cms_held.specs.MinidiskUpdates.{Carries, IsHeldMinidisk, written_count}
 use Rattle.cms_held.specs.LawsEdits.{relabelled, with_volid}
-use Rattle.cms_held.specs.LawsRenewing.{writes_of}
-use Rattle.cms_edf.specs.Planning.{DoesTo, IsEditFor, IsPlanFor, IsReadyLabel}
-use Rattle.cms_edf.specs.Finishing.{CarriesOut, IsStopped, LeadsTo, Moves, step_events, with_label_bytes}
-use Rattle.cms_held.specs.Renewing.{Edit, renewed}
+use Rattle.cms_held.specs.LawsRenewals.{writes_of}
+use Rattle.cms_edf.specs.ChangePlans.{DoesTo, IsEditFor, IsPlanFor, IsReadyLabel}
+use Rattle.cms_edf.specs.Updates.{CarriesOut, IsStopped, LeadsTo, Moves, step_events, with_label_bytes}
+use Rattle.cms_held.specs.Renewals.{Edit, renewed}
 use Rattle.cms_held.specs.Systems.{Systems, system_writes}
 use Rattle.cms_edf.specs.Doubts.{Updates, UpdatesSystems}
 use Rattle.cms_edf.proofs.CutOff.{updates_cut, updates_done}
@@ -40,7 +40,7 @@ use Rattle.cms_edf.specs.declared.doubt.Doubt.TheVariants.{Old, Either}
 use Rattle.cms_edf.specs.declared.step.Step.{Step}
 use Rattle.cms_edf.specs.declared.step.Step.TheVariants as step
 use Rattle.cms_held.proofs.Carried.{planned_is_carried, update_is_small}
-use Rattle.cms_held.proofs.Relabelling.{changed_is, relabel_is_held}
+use Rattle.cms_held.proofs.Relabelled.{changed_is, relabel_is_held}
 
 -- what holds of a told journal
 pub told_so : (j : Journal) (new : Told) (p : List Event) (P : Journal → Type 0) → new ≡ plus (Some j) p → P (after j p) → ForSome new P

@@ -15,38 +15,38 @@ use Rattle.cms_fields.specs.Stamps.{is_stamp}
 use Rattle.cms_fields.specs.declared.entry.Entry.{Entry}
 use Rattle.cms_fields.specs.declared.time.Stamp.{Stamp}
 use Rattle.cms_model.specs.Minidisks.{same_name}
-use Rattle.cms_model.specs.Sharing.{MayBeWritten, fresh_count, fresh_to}
+use Rattle.cms_model.specs.SharedTrees.{MayBeWritten, fresh_count, fresh_to}
 use Rattle.cms_model.specs.Sizes.{levels, pointer_count}
 use Rattle.cms_model.proofs.FileSizes.{fan_wide}
 use Rattle.cms_model.proofs.Repeats.{held, in_held}
 use Rattle.cms_map.specs.Bits.{HasFixed, free_blocks}
 use Rattle.cms_tree.specs.Paths.{fresh_places}
-use Rattle.cms_tree.proofs.Pathing.{path_takes_no_more, places_count}
-use Rattle.cms_held.specs.Allotting.{IsPlanned, KeepsTree}
-use Rattle.cms_held.specs.Growing.{KeepsFront, growing, places_behind}
+use Rattle.cms_tree.proofs.Paths.{path_takes_no_more, places_count}
+use Rattle.cms_held.specs.Allotments.{IsPlanned, KeepsTree}
+use Rattle.cms_held.specs.Growths.{KeepsFront, growing, places_behind}
+use Rattle.cms_held.specs.HeldVolumes.{HeldFile, HeldTree, HeldVolume, names_in}
 use Rattle.cms_held.specs.Kept.{Keeps}
-use Rattle.cms_held.specs.Opening.{HeldFile, HeldTree, HeldVolume, names_in}
-use Rattle.cms_held.specs.Putting.{AreFree, limit_put}
-use Rattle.cms_held.specs.Renewing.{blocks_in, entries_held, made_at, needed}
+use Rattle.cms_held.specs.Puts.{AreFree, limit_put}
+use Rattle.cms_held.specs.Renewals.{blocks_in, entries_held, made_at, needed}
 use Rattle.cms_held.specs.SharedBlocks.{fresh_of, released_of}
 use Rattle.cms_held.specs.Systems.{Systems, TreePart}
 use Rattle.cms_held.specs.Written.{ReadsBack}
-use Rattle.cms_held.proofs.Allotting.{nodes_few}
+use Rattle.cms_held.proofs.Allotted.{nodes_few}
 use Rattle.cms_held.proofs.Drafted.{fan_is}
 use Rattle.cms_held.proofs.Grown.{behind_all, behind_low}
 use Rattle.cms_held.proofs.KeptTrees.{nodes_are}
 use Rattle.cms_held.proofs.NewMap.{row_within}
 use Rattle.cms_draft.specs.declared.shape.DraftShape.{DraftShape}
-use Rattle.cms_edf.specs.Allotting.{IsAllottedFor, given_back, need_of, numbers_made}
+use Rattle.cms_edf.specs.Allotments.{IsAllottedFor, given_back, need_of, numbers_made}
+use Rattle.cms_edf.specs.ChangePlans.{IsFilled}
 use Rattle.cms_edf.specs.FileDrafts.{entry_for, file_for, list_with}
-use Rattle.cms_edf.specs.Growing.{GrowsAs, IsGrowthOf, IsGrowthPlanned, IsGrownPlan, IsMoreRefused, kept_in, more_fault, need_more}
-use Rattle.cms_edf.specs.Lacking.{LacksRoom}
-use Rattle.cms_edf.specs.Planning.{IsFilled}
+use Rattle.cms_edf.specs.Growths.{GrowsAs, IsGrowthOf, IsGrowthPlanned, IsGrownPlan, IsMoreRefused, kept_in, more_fault, need_more}
+use Rattle.cms_edf.specs.NoRoom.{LacksRoom}
 use Rattle.cms_edf.specs.declared.allotment.Allotment.{Allotment}
 use Rattle.cms_edf.specs.declared.allotment.Exchange.{Exchange}
 use Rattle.cms_edf.specs.declared.allotment.PlanFault.{PlanFault}
 use Rattle.cms_edf.specs.declared.allotment.PlanFault.TheVariants as failed
-use Rattle.cms_edf.specs.declared.growing.Growth.{Growth}
+use Rattle.cms_edf.specs.declared.growth.Growth.{Growth}
 use Rattle.cms_edf.proofs.AllottedParts.{Asks, planned_of}
 use Rattle.cms_edf.proofs.DraftPlanned.{count_held, enough_with, entry_passes, limits, taken_free, taken_within}
 use Rattle.cms_edf.proofs.GrownNumbers.{kept_at}

@@ -13,22 +13,22 @@ use Rattle.cms_model.specs.Minidisks.{same_name}
 use Rattle.cms_model.specs.Sizes.{pointer_count}
 use Rattle.cms_map.specs.Bits.{free_blocks}
 use Rattle.cms_held.specs.Drafts.{Front}
+use Rattle.cms_held.specs.HeldVolumes.{HeldFile, HeldTree, HeldVolume, names_in}
 use Rattle.cms_held.specs.Kept.{Keeps}
-use Rattle.cms_held.specs.Opening.{HeldFile, HeldTree, HeldVolume, names_in}
-use Rattle.cms_draft.specs.Continuing.{HaveShapeOn, IsBegun, IsContinued, bytes_before}
-use Rattle.cms_draft.specs.Drafting.{Drafts, IsDrafting}
+use Rattle.cms_draft.specs.BegunFiles.{HaveShapeOn, IsBegun, IsContinued, bytes_before}
+use Rattle.cms_draft.specs.FileWriters.{Drafts, IsDrafting}
 use Rattle.cms_draft.specs.declared.begun.Begun.{Begun}
 use Rattle.cms_draft.specs.declared.shape.DraftShape.{DraftShape}
-use Rattle.cms_edf.specs.FileDrafts.{FileDraft, IsSomeDraft, tree_of}
-use Rattle.cms_edf.specs.Growing.{IsBegunOf, IsBehind, IsFileOf, IsFrontOf, IsGrownPlan, IsGrowthPlanned, IsMoreFor, IsMoreRefused, IsReadFault, need_more}
-use Rattle.cms_edf.specs.declared.growing.GrownPlan.{GrownPlan}
-use Rattle.cms_edf.specs.declared.growing.MoreFault.{MoreFault}
+use Rattle.cms_edf.specs.FileDrafts.{Draft, IsSomeDraft, tree_of}
+use Rattle.cms_edf.specs.Growths.{IsBegunOf, IsBehind, IsFileOf, IsFrontOf, IsGrownPlan, IsGrowthPlanned, IsMoreFor, IsMoreRefused, IsReadFault, need_more}
+use Rattle.cms_edf.specs.declared.growth.GrownPlan.{GrownPlan}
+use Rattle.cms_edf.specs.declared.growth.MoreFault.{MoreFault}
 use Rattle.cms_edf.proofs.DraftPlanned.{limits}
 use Rattle.cms_edf.proofs.DraftPut.{more_is_some}
 use Rattle.cms_edf.proofs.MorePlanned.{more_behind, more_planned, read_refused}
 
 -- what was planned of the file in a place, what was read of it, and the draft that goes on with both
-pub record GoesOn (told : Told) (v : HeldVolume) (name : Name) (place : ℕ) (f : HeldFile) (asked : DraftShape) (stamp : Stamp) (p : GrownPlan) (b : Begun) (d : FileDraft) : Type 0 where
+pub record GoesOn (told : Told) (v : HeldVolume) (name : Name) (place : ℕ) (f : HeldFile) (asked : DraftShape) (stamp : Stamp) (p : GrownPlan) (b : Begun) (d : Draft) : Type 0 where
   pub kept : Keeps v
   pub there : position (same_name name) (names_in v.files) ≡ Some place
   pub is : slice_get v.files place ≡ Some f
@@ -48,28 +48,28 @@ file_in : (v : HeldVolume) (name : Name) (place : ℕ) (f g : HeldFile) → posi
 file_in v name place f g there is at = same_Some f g (sym is ∙ subst (λ (k : ℕ). slice_get v.files k ≡ Some g) (same_Some at.place place (sym at.there ∙ there)) at.is)
 
 -- it is a draft of that file
-pub goes_on : (told : Told) (v : HeldVolume) (name : Name) (place : ℕ) (f : HeldFile) (asked : DraftShape) (stamp : Stamp) (p : GrownPlan) (b : Begun) (d : FileDraft)
+pub goes_on : (told : Told) (v : HeldVolume) (name : Name) (place : ℕ) (f : HeldFile) (asked : DraftShape) (stamp : Stamp) (p : GrownPlan) (b : Begun) (d : Draft)
     → GoesOn told v name place f asked stamp p b d → IsMoreFor v name f asked stamp d
 goes_on told v name place f asked stamp p b d o = more_planned v name place f asked stamp p b f.entry.count d o.planned o.is o.continued o.drafting o.entry o.systems o.begun.kept
 
 -- what is said of it
-pub on_planned : (told : Told) (v : HeldVolume) (name : Name) (place : ℕ) (f : HeldFile) (asked : DraftShape) (stamp : Stamp) (p : GrownPlan) (b : Begun) (d : FileDraft)
+pub on_planned : (told : Told) (v : HeldVolume) (name : Name) (place : ℕ) (f : HeldFile) (asked : DraftShape) (stamp : Stamp) (p : GrownPlan) (b : Begun) (d : Draft)
     → GoesOn told v name place f asked stamp p b d → (g : HeldFile) → IsFileOf v name g → IsMoreFor v name g asked stamp d
 on_planned told v name place f asked stamp p b d o g at =
     subst (λ (h : HeldFile). IsMoreFor v name h asked stamp d) (file_in v name place f g o.there o.is at) (goes_on told v name place f asked stamp p b d o)
 
-pub on_some : (told : Told) (v : HeldVolume) (name : Name) (place : ℕ) (f : HeldFile) (asked : DraftShape) (stamp : Stamp) (p : GrownPlan) (b : Begun) (d : FileDraft)
+pub on_some : (told : Told) (v : HeldVolume) (name : Name) (place : ℕ) (f : HeldFile) (asked : DraftShape) (stamp : Stamp) (p : GrownPlan) (b : Begun) (d : Draft)
     → GoesOn told v name place f asked stamp p b d → IsSomeDraft v d
 on_some told v name place f asked stamp p b d o = more_is_some v name f asked stamp d (goes_on told v name place f asked stamp p b d o)
 
-pub on_behind : (told : Told) (v : HeldVolume) (name : Name) (place : ℕ) (f : HeldFile) (asked : DraftShape) (stamp : Stamp) (p : GrownPlan) (b : Begun) (d : FileDraft)
+pub on_behind : (told : Told) (v : HeldVolume) (name : Name) (place : ℕ) (f : HeldFile) (asked : DraftShape) (stamp : Stamp) (p : GrownPlan) (b : Begun) (d : Draft)
     → GoesOn told v name place f asked stamp p b d → (g : HeldFile) → IsFileOf v name g → IsBehind g asked d
 on_behind told v name place f asked stamp p b d o g at =
     subst (λ (h : HeldFile). IsBehind h asked d) (file_in v name place f g o.there o.is at)
     (more_behind v f asked p.growth p.tree b f.entry.count d o.kept.sized o.continued o.drafting refl (o.begun.kept ∙ (o.planned.growth f o.is).kept_is) o.begun.filled)
 
 -- whatever its new records are, they come behind what stands
-front_on : (told : Told) (v : HeldVolume) (name : Name) (place : ℕ) (f : HeldFile) (asked : DraftShape) (stamp : Stamp) (p : GrownPlan) (b : Begun) (d : FileDraft)
+front_on : (told : Told) (v : HeldVolume) (name : Name) (place : ℕ) (f : HeldFile) (asked : DraftShape) (stamp : Stamp) (p : GrownPlan) (b : Begun) (d : Draft)
     → GoesOn told v name place f asked stamp p b d
     → ForSome told (λ j. (front : Front) (records : List (List ℕ)) → IsFrontOf j v f (tree_of d) front → HaveShapeOn asked front records → Drafts d.writer front [] records)
 front_on told v name place f asked stamp p b d o j is front records read have =
@@ -81,7 +81,7 @@ front_on told v name place f asked stamp p b d o j is front records read have =
     let own : IsFrontOf j v f p.tree front = subst (λ (t : HeldTree). IsFrontOf j v f t front) c.tree_is read in
     c.drafts front records own.count_is (o.begun.front j is asked p.tree front at.grows.format_is count nodes own) have
 
-pub on_drafts : (told : Told) (v : HeldVolume) (name : Name) (place : ℕ) (f : HeldFile) (asked : DraftShape) (stamp : Stamp) (p : GrownPlan) (b : Begun) (d : FileDraft)
+pub on_drafts : (told : Told) (v : HeldVolume) (name : Name) (place : ℕ) (f : HeldFile) (asked : DraftShape) (stamp : Stamp) (p : GrownPlan) (b : Begun) (d : Draft)
     → GoesOn told v name place f asked stamp p b d
     → ForSome told (λ j. (g : HeldFile) (front : Front) (records : List (List ℕ)) → IsFileOf v name g → IsFrontOf j v g (tree_of d) front → HaveShapeOn asked front records
     → Drafts d.writer front [] records)

@@ -12,11 +12,11 @@ use Rattle.cms_model.specs.Sizes.{levels}
 use Rattle.cms_model.proofs.FileSizes.{fan_wide}
 use Rattle.cms_model.proofs.Quotients.{up_spec}
 use Rattle.cms_held.specs.Drafts.{filled}
+use Rattle.cms_held.specs.HeldVolumes.{HeldFile, HeldVolume}
 use Rattle.cms_held.specs.Kept.{IsKeptFile, Keeps}
-use Rattle.cms_held.specs.Opening.{HeldFile, HeldVolume}
 use Rattle.cms_draft.specs.declared.shape.DraftShape.{DraftShape}
-use Rattle.cms_edf.specs.Growing.{GrowsAs, IsGrowthOf}
-use Rattle.cms_edf.specs.declared.growing.Growth.{Growth}
+use Rattle.cms_edf.specs.Growths.{GrowsAs, IsGrowthOf}
+use Rattle.cms_edf.specs.declared.growth.Growth.{Growth}
 use Rattle.cms_edf.proofs.DraftPlanned.{whole_blocks}
 
 -- what is kept of a level is a part of it

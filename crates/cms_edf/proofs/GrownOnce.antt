@@ -9,7 +9,7 @@ use Rattle.cms_journal.specs.Journal.{Journal}
 use Rattle.cms_fields.specs.Numbers.{up}
 use Rattle.cms_model.specs.Lists.{In, times}
 use Rattle.cms_model.specs.Minidisks.{Minidisk}
-use Rattle.cms_model.specs.Sharing.{fresh_on, is_kept}
+use Rattle.cms_model.specs.SharedTrees.{fresh_on, is_kept}
 use Rattle.cms_model.specs.SharedTimes.{came, without}
 use Rattle.cms_model.specs.Sizes.{levels}
 use Rattle.cms_model.specs.Stands.{Kept, Layout, file_blocks, layout_blocks}
@@ -18,12 +18,12 @@ use Rattle.cms_model.proofs.SharedTiers.{never_kept}
 use Rattle.cms_model.proofs.WrittenBlocks.{leaf_written}
 use Rattle.cms_map.specs.Bits.{free_blocks}
 use Rattle.cms_tree.specs.Paths.{levels_of, numbered, path_levels, paths}
-use Rattle.cms_tree.proofs.Pathing.{get-numbered, length-numbered}
-use Rattle.cms_held.specs.Carrying.{IsHeldMinidisk}
-use Rattle.cms_held.specs.Growing.{KeepsFront, places_behind}
-use Rattle.cms_held.specs.Opening.{HeldFile, HeldTree, HeldVolume}
-use Rattle.cms_held.specs.Putting.{AreFree}
-use Rattle.cms_held.specs.Renewing.{blocks_in}
+use Rattle.cms_tree.proofs.Paths.{get-numbered, length-numbered}
+use Rattle.cms_held.specs.Growths.{KeepsFront, places_behind}
+use Rattle.cms_held.specs.HeldVolumes.{HeldFile, HeldTree, HeldVolume}
+use Rattle.cms_held.specs.MinidiskUpdates.{IsHeldMinidisk}
+use Rattle.cms_held.specs.Puts.{AreFree}
+use Rattle.cms_held.specs.Renewals.{blocks_in}
 use Rattle.cms_held.specs.SharedBlocks.{fresh_of, levels_in}
 use Rattle.cms_held.proofs.Edits.{at_place, tree_times}
 use Rattle.cms_held.proofs.Grown.{keeps_tree}

@@ -17,8 +17,8 @@ pub mod TreesRead
 pub mod RecordsRead
 pub mod VolumeOpened
 pub mod FilesNamed
-pub mod Renaming
-pub mod Stamping
+pub mod FilesRenamed
+pub mod StampsMoved
 pub mod PlanParts
 pub mod Planned
 pub mod NewEntries
@@ -50,4 +50,4 @@ pub mod Grown
 pub mod Begun
 pub mod MorePlanned
 pub mod NewSystems
-pub mod Starting
+pub mod RecordStarts

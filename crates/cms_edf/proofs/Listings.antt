@@ -20,8 +20,8 @@ use Rattle.cms_tree.specs.Walks.{tree_at, image_at, IsWithin}
 use Rattle.cms_tree.specs.declared.types.TreeAt.{TreeAt}
 use Rattle.cms_tree.specs.declared.types.Walked.{Walked}
 use Rattle.cms_journal.specs.declared.event.Attached.{Attached}
-use Rattle.cms_edf.specs.declared.open.Place.{Place}
-use Rattle.cms_held.specs.Opening.{IsFaultOf}
+use Rattle.cms_edf.specs.declared.listing.Place.{Place}
+use Rattle.cms_held.specs.HeldVolumes.{IsFaultOf}
 use Rattle.cms_edf.specs.OpeningSteps.{listed_in, system_at, met_in, ReadsTree, ReadsMap}
 use Rattle.cms_edf.proofs.Faults.{fault_is, fault_passes}
 

@@ -8,32 +8,32 @@ use Rattle.cms_fields.specs.Entries.{fan_of, pointer_size}
 use Rattle.cms_fields.specs.declared.time.Stamp.{Stamp}
 use Rattle.cms_model.specs.Sizes.{pointer_count}
 use Rattle.cms_map.specs.Bits.{free_blocks}
-use Rattle.cms_tree.proofs.Building.{fan_wide}
+use Rattle.cms_tree.proofs.BuiltTrees.{fan_wide}
 use Rattle.cms_held.specs.Drafts.{own_blocks}
-use Rattle.cms_held.specs.Growing.{KeepsFront, places_behind}
-use Rattle.cms_held.specs.Opening.{HeldFile, HeldTree, HeldVolume}
-use Rattle.cms_held.specs.Putting.{AreFree}
+use Rattle.cms_held.specs.Growths.{KeepsFront, places_behind}
+use Rattle.cms_held.specs.HeldVolumes.{HeldFile, HeldTree, HeldVolume}
+use Rattle.cms_held.specs.Puts.{AreFree}
 use Rattle.cms_held.specs.SharedBlocks.{fresh_of}
 use Rattle.cms_held.specs.SharedTrees.{HasShape}
 use Rattle.cms_held.proofs.Drafted.{fan_is}
 use Rattle.cms_held.proofs.GrownBlocks.{own_is_fresh}
-use Rattle.cms_draft.specs.BlockWriting.{came, its_blocks}
-use Rattle.cms_draft.specs.Continuing.{IsContinued}
-use Rattle.cms_draft.specs.Drafting.{IsDrafting}
+use Rattle.cms_draft.specs.BegunFiles.{IsContinued}
+use Rattle.cms_draft.specs.BlockWriters.{came, its_blocks}
+use Rattle.cms_draft.specs.FileWriters.{IsDrafting}
 use Rattle.cms_draft.specs.declared.begun.Begun.{Begun}
 use Rattle.cms_draft.specs.declared.shape.DraftShape.{DraftShape}
-use Rattle.cms_edf.specs.FileDrafts.{FileDraft, entry_for, tree_of}
-use Rattle.cms_edf.specs.Growing.{IsBehind, IsGrowthPlanned, IsGrownPlan, IsMoreFor, IsMoreRefused, IsReadFault, kept_in, need_more}
-use Rattle.cms_edf.specs.declared.growing.Growth.{Growth}
-use Rattle.cms_edf.specs.declared.growing.GrownPlan.{GrownPlan}
-use Rattle.cms_edf.specs.declared.growing.MoreFault.{MoreFault}
-use Rattle.cms_edf.specs.declared.growing.MoreFault.TheVariants as more
+use Rattle.cms_edf.specs.FileDrafts.{Draft, entry_for, tree_of}
+use Rattle.cms_edf.specs.Growths.{IsBehind, IsGrowthPlanned, IsGrownPlan, IsMoreFor, IsMoreRefused, IsReadFault, kept_in, need_more}
+use Rattle.cms_edf.specs.declared.growth.Growth.{Growth}
+use Rattle.cms_edf.specs.declared.growth.GrownPlan.{GrownPlan}
+use Rattle.cms_edf.specs.declared.growth.MoreFault.{MoreFault}
+use Rattle.cms_edf.specs.declared.growth.MoreFault.TheVariants as more
 use Rattle.cms_edf.proofs.AddedFront.{pointer_kind}
 use Rattle.cms_edf.proofs.GrownNumbers.{kept_at}
-use Rattle.cms_edf.proofs.Starting.{same_quotient}
+use Rattle.cms_edf.proofs.RecordStarts.{same_quotient}
 
 -- the blocks that the draft of a grown tree writes are free
-own_free : (v : HeldVolume) (name : Name) (f : HeldFile) (asked : DraftShape) (stamp : Stamp) (d : FileDraft) → IsGrowthPlanned v name f asked stamp (tree_of d) d.systems 0
+own_free : (v : HeldVolume) (name : Name) (f : HeldFile) (asked : DraftShape) (stamp : Stamp) (d : Draft) → IsGrowthPlanned v name f asked stamp (tree_of d) d.systems 0
     → d.writer.writer.bsize ≡ v.disk.bsize → d.writer.writer.psize ≡ pointer_size asked.format → d.writer.writer.kept ≡ kept_in v.disk.bsize f → AreFree v (its_blocks d.writer.writer)
 own_free v name f asked stamp d at size pointer kept =
     let w = d.writer.writer in
@@ -50,7 +50,7 @@ own_free v name f asked stamp d at size pointer kept =
     (λ i. own_blocks (size i / pointer i) w.tree.leaves w.tree.pointers (kept i)) ∙ own ∙ ap (λ (n : ℕ). fresh_of n (places_behind (kept_in bsize f) (length w.tree.leaves)) f.tree w.tree) wider in
     subst (AreFree v) (sym is) at.free
 
-pub more_planned : (v : HeldVolume) (name : Name) (place : ℕ) (f : HeldFile) (asked : DraftShape) (stamp : Stamp) (plan : GrownPlan) (b : Begun) (put : ℕ) (d : FileDraft)
+pub more_planned : (v : HeldVolume) (name : Name) (place : ℕ) (f : HeldFile) (asked : DraftShape) (stamp : Stamp) (plan : GrownPlan) (b : Begun) (put : ℕ) (d : Draft)
     → IsGrownPlan v name place asked stamp plan → slice_get v.files place ≡ Some f → IsContinued v.unit v.disk.bsize put asked plan.tree b d.writer → IsDrafting d.writer
     → d.entry ≡ plan.entry → d.systems ≡ plan.systems → b.kept ≡ plan.growth.kept → IsMoreFor v name f asked stamp d
 more_planned v name place f asked stamp plan b put d planned is on kept entry systems kept_is =
@@ -69,7 +69,7 @@ more_planned v name place f asked stamp plan b put d planned is on kept entry sy
     }
 
 -- none of its new records is put yet
-pub more_behind : (v : HeldVolume) (f : HeldFile) (asked : DraftShape) (g : Growth) (tree : HeldTree) (b : Begun) (put : ℕ) (d : FileDraft) → IsBlockSize v.disk.bsize
+pub more_behind : (v : HeldVolume) (f : HeldFile) (asked : DraftShape) (g : Growth) (tree : HeldTree) (b : Begun) (put : ℕ) (d : Draft) → IsBlockSize v.disk.bsize
     → IsContinued v.unit v.disk.bsize put asked tree b d.writer → IsDrafting d.writer → put ≡ f.entry.count → b.kept ≡ kept_in v.disk.bsize f → b.filled ≡ f.size % v.disk.bsize → IsBehind f asked d
 more_behind v f asked g tree b put d size on kept count kept_is filled =
     let w = d.writer.writer in

@@ -5,8 +5,8 @@ use Rattle.std.proofs.lemmas.Bool.{cases_lt}
 use Rattle.std.proofs.lemmas.List.{get_or-set_other, get_or-set_same, get_or-take, get_or_append_left, length-map, length-set, length-take-le, set-append_left, take_all, take-append-le}
 use Rattle.std.proofs.lemmas.Option.{get_or_from_slice_get, same_Some, slice_get-get_or, slice_get-map, slice_get_within}
 use Rattle.cms_fields.specs.declared.entry.Entry.{Entry}
-use Rattle.cms_held.specs.Opening.{HeldFile}
-use Rattle.cms_held.specs.Renewing.{entries_held, moved_entry}
+use Rattle.cms_held.specs.HeldVolumes.{HeldFile}
+use Rattle.cms_held.specs.Renewals.{entries_held, moved_entry}
 use Rattle.cms_edf.specs.NewEntries.{AreAltered, AreNewEntries, altered, new_entries}
 use Rattle.cms_edf.specs.declared.new_entries.Alteration.{Alteration}
 use Rattle.cms_edf.specs.declared.new_entries.Alteration.TheVariants.{Moved, Other}

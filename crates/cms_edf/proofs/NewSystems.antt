@@ -7,13 +7,13 @@ use Rattle.cms_fields.specs.Numbers.{up}
 use Rattle.cms_fields.specs.declared.time.Stamp.{Stamp}
 use Rattle.cms_model.specs.Sizes.{map_size}
 use Rattle.cms_model.proofs.Quotients.{up_spec}
-use Rattle.cms_held.specs.Making.{Making, IsEmptyVolume}
+use Rattle.cms_held.specs.EmptyVolumes.{MakePlan, IsEmptyVolume}
 use Rattle.cms_held.specs.Systems.{TreePart}
-use Rattle.cms_held.proofs.Allotting.{map_some}
+use Rattle.cms_held.proofs.Allotted.{map_some}
 use Rattle.cms_held.proofs.Made.{directory_long, facts, laid_out}
 use Rattle.cms_held.proofs.NewMap.{row_all}
+use Rattle.cms_edf.specs.BlockWrites.{IsBlockOf}
 use Rattle.cms_edf.specs.Doubts.{AreAt, IsReady}
-use Rattle.cms_edf.specs.Writing.{IsBlockOf}
 use Rattle.cms_edf.proofs.PartsReady.{left_all, right_all}
 
 -- all places of a list
@@ -27,7 +27,7 @@ at_all total blocks places is all =
 pub two_are : (first second own maps before two : List ℕ) → before ≡ [] → two ≡ before ++ (own ++ maps) → own ≡ first → maps ≡ second → two ≡ first ++ second
 two_are first second own maps before two none is own_is maps_are = is ∙ (λ i. none i ++ (own_is i ++ maps_are i))
 
-pub made_ready : (m : Making) (volid : List ℕ) (stamp : Stamp) → IsEmptyVolume m volid stamp → IsReady m.disk.bsize m.systems
+pub made_ready : (m : MakePlan) (volid : List ℕ) (stamp : Stamp) → IsEmptyVolume m volid stamp → IsReady m.disk.bsize m.systems
 made_ready m volid stamp e =
     let f = facts m e in
     let l = laid_out m e in

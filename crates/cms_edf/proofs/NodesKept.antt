@@ -5,15 +5,15 @@ use Rattle.std.proofs.lemmas.List.{length-take-le}
 use Rattle.std.proofs.lemmas.List.Elements.{All-nil, All-cons}
 use Rattle.cms_fields.specs.Numbers.{up}
 use Rattle.cms_model.specs.Lists.{In}
-use Rattle.cms_model.specs.Sharing.{MayBeWritten, fresh_on, is_kept}
+use Rattle.cms_model.specs.SharedTrees.{MayBeWritten, fresh_on, is_kept}
 use Rattle.cms_model.specs.SharedTimes.{without}
 use Rattle.cms_model.specs.Sizes.{levels, pointer_count}
 use Rattle.cms_model.proofs.Members.{In-either, In-right}
 use Rattle.cms_tree.specs.Paths.{levels_of, numbered, paths}
 use Rattle.cms_tree.proofs.Own.{in_at, in_drop, in_take}
-use Rattle.cms_tree.proofs.Pathing.{count_first, fresh_first, fresh_room, kept_inside, left_count, left_fresh}
-use Rattle.cms_held.specs.Allotting.{KeepsTree}
-use Rattle.cms_held.specs.Opening.{HeldTree}
+use Rattle.cms_tree.proofs.Paths.{count_first, fresh_first, fresh_room, kept_inside, left_count, left_fresh}
+use Rattle.cms_held.specs.Allotments.{KeepsTree}
+use Rattle.cms_held.specs.HeldVolumes.{HeldTree}
 use Rattle.cms_held.specs.SharedBlocks.{fresh_of}
 use Rattle.cms_held.proofs.KeptTrees.{leaf_comes, nodes_come}
 

@@ -6,14 +6,14 @@ use Rattle.std.proofs.lemmas.List.Elements.{All-nil, All-cons, All-head, All-tai
 use Rattle.cms_fields.specs.Numbers.{up}
 use Rattle.cms_model.specs.Lists.{In}
 use Rattle.cms_model.specs.Settled.{Write}
-use Rattle.cms_model.specs.Sharing.{MayBeWritten, is_kept}
+use Rattle.cms_model.specs.SharedTrees.{MayBeWritten, is_kept}
 use Rattle.cms_model.specs.Sizes.{levels, pointer_count}
 use Rattle.cms_model.proofs.Quotients.{up_spec}
 use Rattle.cms_model.proofs.WrittenBlocks.{leaf_written}
 use Rattle.cms_map.specs.Touched.{AreTouched, data_block}
-use Rattle.cms_tree.proofs.Pathing.{places_within}
-use Rattle.cms_held.specs.Allotting.{KeepsTree, nodes_fresh, on_map}
-use Rattle.cms_held.specs.Opening.{HeldTree}
+use Rattle.cms_tree.proofs.Paths.{places_within}
+use Rattle.cms_held.specs.Allotments.{KeepsTree, nodes_fresh, on_map}
+use Rattle.cms_held.specs.HeldVolumes.{HeldTree}
 use Rattle.cms_held.specs.SharedBlocks.{fresh_of}
 use Rattle.cms_held.specs.SharedWrites.{shared_node_writes}
 use Rattle.cms_held.specs.Systems.{TreePart, leaf_writes, nodes_at}
@@ -25,8 +25,8 @@ use Rattle.cms_held.proofs.MapShares.{from_map}
 use Rattle.cms_held.proofs.PartCases.{first_stays, headed}
 use Rattle.cms_held.proofs.SharedWrites.{fresh_are_written}
 use Rattle.cms_held.proofs.WritesPut.{blocks_written, written_append}
+use Rattle.cms_edf.specs.BlockWrites.{IsBlockOf}
 use Rattle.cms_edf.specs.Doubts.{AreAt}
-use Rattle.cms_edf.specs.Writing.{IsBlockOf}
 
 -- ---- the map
 

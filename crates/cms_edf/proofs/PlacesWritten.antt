@@ -8,8 +8,8 @@ use Rattle.cms_model.proofs.Cuts.{length_cut}
 use Rattle.cms_held.specs.Systems.{block_writes, data_writes, leaf_writes}
 use Rattle.cms_held.proofs.Fronts.{IsWriteAt}
 use Rattle.cms_held.proofs.PiecesWritten.{length_writes, piece_at}
+use Rattle.cms_edf.specs.BlockWrites.{IsBlockOf}
 use Rattle.cms_edf.specs.Doubts.{AreAt}
-use Rattle.cms_edf.specs.Writing.{IsBlockOf}
 
 -- the block at a place
 block_at : (blocks places : List ℕ) (k : ℕ) → k < length places → get_or (map (λ (j : ℕ). get_or blocks j 0) places) k 0 ≡ get_or blocks (get_or places k 0) 0

@@ -13,29 +13,29 @@ use Rattle.cms_fields.specs.declared.label.Label.{Label}
 use Rattle.cms_fields.specs.declared.time.Stamp.{Stamp}
 use Rattle.cms_model.specs.DirectoryParts.{blocks_made, directory_count}
 use Rattle.cms_model.specs.Lists.{In}
-use Rattle.cms_model.specs.Sharing.{MayBeWritten}
+use Rattle.cms_model.specs.SharedTrees.{MayBeWritten}
 use Rattle.cms_model.specs.Sizes.{map_size, pointer_count}
 use Rattle.cms_map.specs.Bits.{free_blocks, with_marked}
 use Rattle.cms_map.proofs.Free.{free_are_unused, length-with_marked}
-use Rattle.cms_held.specs.Opening.{HeldFile, HeldTree, HeldVolume, names_in}
+use Rattle.cms_held.specs.HeldVolumes.{HeldFile, HeldTree, HeldVolume, names_in}
 use Rattle.cms_model.specs.Changes.{Century, Change, Drop, Rename, Relabel}
 use Rattle.cms_model.specs.Minidisks.{same_name}
-use Rattle.cms_model.proofs.Changing.{name_from}
+use Rattle.cms_model.proofs.ListChanges.{name_from}
 use Rattle.std.proofs.lemmas.List.Quantifiers.{position-Some}
 use Rattle.cms_held.specs.Kept.{IsKeptFile, Keeps}
-use Rattle.cms_held.specs.Allotting.{IsPartAllotted, part_fresh, part_released, parts_of}
+use Rattle.cms_held.specs.Allotments.{IsPartAllotted, part_fresh, part_released, parts_of}
 use Rattle.cms_held.specs.SharedBlocks.{fresh_of}
 use Rattle.cms_held.specs.Systems.{Systems, TreePart}
 use Rattle.cms_held.specs.Written.{CanWrite, ReadsBack}
 use Rattle.cms_held.proofs.KeptTrees.{nodes_are}
 use Rattle.cms_held.specs.MapShares.{turned}
-use Rattle.cms_edf.specs.Allotting.{IsAllottedFor, all_fresh, all_released, given_back, need_of, own_fresh, own_released, numbers_made}
+use Rattle.cms_edf.specs.Allotments.{IsAllottedFor, all_fresh, all_released, given_back, need_of, own_fresh, own_released, numbers_made}
+use Rattle.cms_edf.specs.BlockWrites.{IsBlockOf}
 use Rattle.cms_edf.specs.Doubts.{AreAt, IsReady}
-use Rattle.cms_edf.specs.Writing.{IsBlockOf}
-use Rattle.cms_held.specs.Renewing.{Edit, blocks_in, dropping, entries_held, moved_entry, moved_file, moving, renamed, renaming, renewed}
-use Rattle.cms_held.specs.Carrying.{IsEditOf, IsReadyFor, drops, moves, renames}
-use Rattle.cms_edf.specs.Planning.{AreEnoughFor, DoesTo, Edited, IsEditFor, IsFilled, IsPlanFor, IsPrepared, IsReadyAt, IsRelabelOf, IsStepOf, MayEdit, count_after, made_by, place_in}
-use Rattle.cms_edf.specs.Planning as edits
+use Rattle.cms_held.specs.Renewals.{Edit, blocks_in, dropping, entries_held, moved_entry, moved_file, moving, renamed, renaming, renewed}
+use Rattle.cms_held.specs.MinidiskUpdates.{IsEditOf, IsReadyFor, drops, moves, renames}
+use Rattle.cms_edf.specs.ChangePlans.{AreEnoughFor, DoesTo, Edited, IsEditFor, IsFilled, IsPlanFor, IsPrepared, IsReadyAt, IsRelabelOf, IsStepOf, MayEdit, count_after, made_by, place_in}
+use Rattle.cms_edf.specs.ChangePlans as edits
 use Rattle.cms_edf.specs.declared.allotment.Allotment.{Allotment}
 use Rattle.cms_edf.specs.declared.allotment.Exchange.{Exchange}
 use Rattle.cms_edf.specs.declared.change.FileEdit.{FileEdit}
@@ -43,11 +43,11 @@ use Rattle.cms_edf.specs.declared.change.FileEdit.TheVariants as does
 use Rattle.cms_edf.specs.declared.step.Step.{Step}
 use Rattle.cms_edf.specs.declared.step.Step.TheVariants as planned
 use Rattle.std.specs.Prelude.{IfOk, option_map, slice_set, swap_remove}
-use Rattle.cms_held.proofs.Allotting.{directory_small, directory_some, map_some}
+use Rattle.cms_held.proofs.Allotted.{directory_small, directory_some, map_some}
 use Rattle.cms_held.proofs.Centuries.{kept_all_moved}
 use Rattle.cms_held.proofs.Edits.{passes_renamed}
 use Rattle.cms_held.proofs.MapMarks.{length_freed}
-use Rattle.cms_held.proofs.Removing.{All-removed, length-removed, map-removed}
+use Rattle.cms_held.proofs.SwapRemoved.{All-removed, length-removed, map-removed}
 use Rattle.cms_edf.proofs.AllottedParts.{planned_of}
 use Rattle.cms_edf.proofs.PartsReady.{IsAt, at_fresh, fresh_first, map_may}
 use Rattle.cms_edf.proofs.PlanParts.{one_more}

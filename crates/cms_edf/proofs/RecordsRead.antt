@@ -22,17 +22,17 @@ use Rattle.cms_model.specs.declared.fault.VarFault.TheVariants.{Zero, PastEnd}
 use Rattle.cms_model.specs.declared.fault.OpenFault.{OpenFault}
 use Rattle.cms_model.specs.declared.fault.OpenFault.TheVariants as failed
 use Rattle.cms_records.specs.declared.sizes.VarSizes.{VarSizes}
-use Rattle.cms_records.specs.Scans.{Scan, IsFed, filled_by, sizes_in, sizes_of}
+use Rattle.cms_records.specs.Scans.{VarScan, IsFed, filled_by, sizes_in, sizes_of}
 use Rattle.cms_tree.specs.declared.types.Walked.{Walked}
 use Rattle.cms_held.specs.Kept.{IsSized}
-use Rattle.cms_held.specs.Opening.{IsFaultOf, HeldFile}
+use Rattle.cms_held.specs.HeldVolumes.{IsFaultOf, HeldFile}
 use Rattle.cms_held.specs.Marks.{nowhere, start_of}
 use Rattle.cms_edf.specs.declared.contents.RecordsTold.{RecordsTold}
 use Rattle.cms_edf.specs.OpeningSteps.{OfImage, met_in, behind}
 use Rattle.cms_edf.specs.EntryShapes.{EndsIn, HasSize}
 use Rattle.cms_edf.specs.OpeningFiles.{records_in, AreSized, HasRecords, told_file, told_files, HasContents, HaveCounts, entry_sizes, walked_sizes}
 use Rattle.cms_model.proofs.Results.{ok_same, want_ok, bind_then}
-use Rattle.cms_model.proofs.Opening.{blamed_ok}
+use Rattle.cms_model.proofs.OpenedVolumes.{blamed_ok}
 use Rattle.cms_model.proofs.Records.{length-with_length}
 use Rattle.cms_edf.proofs.EntryTests.{ends_last}
 use Rattle.cms_edf.proofs.Faults.{fault_is, fault_passes}
@@ -42,20 +42,20 @@ use Rattle.cms_edf.proofs.FileTrees.{front_of, taken_next, behind_none, behind_m
 -- ---- the blocks of a file
 
 -- the blocks before a place were taken
-pub record Takes (image : Image) (leaves : List ℕ) (k count : ℕ) (scan : Scan) : Type 0 where
+pub record Takes (image : Image) (leaves : List ℕ) (k count : ℕ) (scan : VarScan) : Type 0 where
   pub before : List ℕ
   pub reads : Reads image leaves k before
   pub fed : IsFed count before scan
 
-pub takes_first : (image : Image) (leaves : List ℕ) (count : ℕ) (scan : Scan) → IsFed count [] scan → Takes image leaves 0 count scan
+pub takes_first : (image : Image) (leaves : List ℕ) (count : ℕ) (scan : VarScan) → IsFed count [] scan → Takes image leaves 0 count scan
 takes_first image leaves count scan fed = record { before = []; reads = reads_first image leaves; fed = fed }
 
-pub takes_next : (image : Image) (leaves : List ℕ) (k count : ℕ) (scan scan' : Scan) (block : List ℕ) → k < length leaves → block ≡ image (slice_index leaves k)
+pub takes_next : (image : Image) (leaves : List ℕ) (k count : ℕ) (scan scan' : VarScan) (block : List ℕ) → k < length leaves → block ≡ image (slice_index leaves k)
     → ((count : ℕ) (bytes : List ℕ) → IsFed count bytes scan → IsFed count (bytes ++ block) scan') → Takes image leaves k count scan → Takes image leaves (k + 1) count scan'
 takes_next image leaves k count scan scan' block less is grows t =
     record { before = t.before ++ block; reads = reads_next image leaves k t.before block less is t.reads; fed = grows count t.before t.fed }
 
-pub takes_bad : (image : Image) (leaves : List ℕ) (k count number bsize : ℕ) (scan : Scan) (block : List ℕ) (why : OpenFault) → k < length leaves → block ≡ image (slice_index leaves k)
+pub takes_bad : (image : Image) (leaves : List ℕ) (k count number bsize : ℕ) (scan : VarScan) (block : List ℕ) (why : OpenFault) → k < length leaves → block ≡ image (slice_index leaves k)
     → scan.bsize ≡ bsize
     → ((count : ℕ) (bytes rest : List ℕ) → IsFed count bytes scan → blamed (failed.Var number) (sizes_in scan.bsize count ((bytes ++ block) ++ rest)) ≡ Err why)
     → Takes image leaves k count scan → IsFaultOf (blamed (failed.Var number) (sizes_in bsize count (bytes_at image leaves))) why
@@ -66,7 +66,7 @@ takes_bad image leaves k count number bsize scan block why less is size bad t =
     ∙ (ap (λ (b : ℕ). blamed (failed.Var number) (sizes_in b count ((t.before ++ block) ++ bytes_at image (drop (k + 1) leaves)))) (sym size)
     ∙ bad count t.before (bytes_at image (drop (k + 1) leaves)) t.fed))
 
-pub takes_last : (image : Image) (leaves : List ℕ) (k count number bsize : ℕ) (scan : Scan) (result : Result VarSizes OpenFault) → length leaves ≤ k → scan.bsize ≡ bsize
+pub takes_last : (image : Image) (leaves : List ℕ) (k count number bsize : ℕ) (scan : VarScan) (result : Result VarSizes OpenFault) → length leaves ≤ k → scan.bsize ≡ bsize
     → ((count : ℕ) (bytes : List ℕ) → IsFed count bytes scan → result ≡ blamed (failed.Var number) (sizes_in scan.bsize count bytes))
     → Takes image leaves k count scan → result ≡ blamed (failed.Var number) (sizes_in bsize count (bytes_at image leaves))
 takes_last image leaves k count number bsize scan result past size is t =
@@ -190,7 +190,7 @@ varying_told told unit bsize number e leaves (Ok t) is read starts = λ j at. va
 varying_told told unit bsize number e leaves (Err why) is read starts = tt
 
 -- where the records begin in the last block, from what is told of it
-pub starts_so : (image : Image) (leaves : List ℕ) (k count bsize number start : ℕ) (scan : Scan) (sizes : VarSizes) → length leaves ≤ k → scan.bsize ≡ bsize
+pub starts_so : (image : Image) (leaves : List ℕ) (k count bsize number start : ℕ) (scan : VarScan) (sizes : VarSizes) → length leaves ≤ k → scan.bsize ≡ bsize
     → ((count : ℕ) (bytes : List ℕ) → IsFed count bytes scan → Ok sizes ≡ blamed (failed.Var number) (sizes_in scan.bsize count bytes))
     → ((count : ℕ) (bytes : List ℕ) (records : List (List ℕ)) → scan.bsize ≡ bsize → IsFed count bytes scan → varying scan.bsize count 0 bytes ≡ Ok records → sizes.stored ≡ filled_by records
     → start ≡ start_of bsize V records)

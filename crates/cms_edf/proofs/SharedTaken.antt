@@ -4,15 +4,15 @@ use Rattle.std.specs.List.{concat}
 use Rattle.std.proofs.lemmas.List.{length-take-le}
 use Rattle.std.proofs.lemmas.Bool.{cases_lt}
 use Rattle.cms_model.specs.Lists.{In}
-use Rattle.cms_model.specs.Sharing.{MayBeWritten, fresh_on, fresh_to, is_kept}
+use Rattle.cms_model.specs.SharedTrees.{MayBeWritten, fresh_on, fresh_to, is_kept}
 use Rattle.cms_model.specs.SharedTimes.{came, gone, without}
 use Rattle.cms_model.specs.Sizes.{levels, map_size, pointer_count, tree_size}
-use Rattle.cms_model.proofs.Exchanging.{to_few}
+use Rattle.cms_model.proofs.Exchanges.{to_few}
 use Rattle.cms_model.proofs.WrittenBlocks.{fresh_leaves, leaf_kept, leaf_written, upto_all, written_few}
 use Rattle.cms_tree.specs.Paths.{fresh_places, numbered, path_levels, tree_levels}
-use Rattle.cms_tree.proofs.Pathing.{get-numbered, length-numbered, numbered_takes, places_count}
-use Rattle.cms_held.specs.Allotting.{KeepsTree}
-use Rattle.cms_held.specs.Opening.{HeldTree}
+use Rattle.cms_tree.proofs.Paths.{get-numbered, length-numbered, numbered_takes, places_count}
+use Rattle.cms_held.specs.Allotments.{KeepsTree}
+use Rattle.cms_held.specs.HeldVolumes.{HeldTree}
 use Rattle.cms_held.specs.SharedBlocks.{fresh_of, levels_in, released_of}
 use Rattle.cms_held.specs.Systems.{TreePart}
 use Rattle.cms_held.proofs.KeptTrees.{nodes_come}

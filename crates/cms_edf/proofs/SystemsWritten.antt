@@ -5,9 +5,9 @@ use Rattle.cms_journal.specs.declared.event.Failed.{Failed}
 use Rattle.cms_model.specs.Settled.{Write}
 use Rattle.cms_held.specs.Systems.{Systems, data_writes, leaf_writes, map_piece, nodes_at, system_writes}
 use Rattle.cms_world.specs.Seen.{Seen}
-use Rattle.cms_edf.specs.declared.writing.Target.{Target}
+use Rattle.cms_edf.specs.declared.block_writes.Target.{Target}
+use Rattle.cms_edf.specs.BlockWrites.{Writes}
 use Rattle.cms_edf.specs.Doubts.{target_of, directory_writes, map_writes, first_writes}
-use Rattle.cms_edf.specs.Writing.{Writes}
 
 -- the parts as they are held
 abbrev pub parts_in : ℕ → Systems → List Write

@@ -10,10 +10,10 @@ use Rattle.cms_model.specs.declared.fault.OpenFault.{OpenFault}
 use Rattle.cms_model.proofs.Members.{In-either}
 use Rattle.cms_tree.specs.Walks.{IsWithin}
 use Rattle.cms_tree.specs.declared.types.Walked.{Walked}
-use Rattle.cms_edf.specs.declared.open.Place.{Place}
-use Rattle.cms_edf.specs.declared.open.Listing.{Listing}
+use Rattle.cms_edf.specs.declared.listing.Place.{Place}
+use Rattle.cms_edf.specs.declared.listing.Listing.{Listing}
 use Rattle.cms_edf.specs.declared.volume.Trees.{Trees}
-use Rattle.cms_held.specs.Opening.{IsFaultOf}
+use Rattle.cms_held.specs.HeldVolumes.{IsFaultOf}
 use Rattle.cms_edf.specs.OpeningSteps.{AreBlocks, ReadsMap, met_in, listed, trees_in}
 use Rattle.cms_edf.specs.OpeningFiles.{HasFiles, HasTrees}
 use Rattle.cms_edf.proofs.Faults.{fault_passes}

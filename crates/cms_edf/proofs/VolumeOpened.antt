@@ -17,11 +17,11 @@ use Rattle.cms_model.specs.declared.fault.OpenFault.TheVariants as failed
 use Rattle.cms_map.specs.Bits.{bits_in}
 use Rattle.cms_tree.specs.Walks.{nodes, nodes_at}
 use Rattle.cms_tree.specs.declared.types.Walked.{Walked}
-use Rattle.cms_edf.specs.declared.open.Place.{Place}
-use Rattle.cms_edf.specs.declared.open.Listing.{Listing}
+use Rattle.cms_edf.specs.declared.listing.Place.{Place}
+use Rattle.cms_edf.specs.declared.listing.Listing.{Listing}
 use Rattle.cms_edf.specs.declared.volume.Trees.{Trees}
 use Rattle.cms_held.specs.SharedTrees.{HasShape}
-use Rattle.cms_held.specs.Opening.{HeldFile, HeldTree, HeldVolume, Holding, IsFaultOf, AnswersOpening, held_file, held_files, held_of}
+use Rattle.cms_held.specs.HeldVolumes.{HeldFile, HeldTree, HeldVolume, Held, IsFaultOf, AnswersOpening, held_file, held_files, held_of}
 use Rattle.cms_edf.specs.OpeningSteps.{Listed, Treed, listed, met_in, system_at, listed_in, trees_in, lost_in}
 use Rattle.cms_edf.specs.OpeningFiles.{file_nodes, pointers_in, HasTrees, read_trees, told_file, told_files, opened, behind_label, HasVolume}
 use Rattle.cms_edf.proofs.Faults.{fault_is, fault_passes}
@@ -164,7 +164,7 @@ behind_is : (disk : Disk) (image : Image) (bytes : List ℕ) (label : Label) →
 behind_is disk image bytes label some is good =
     from_label disk image some ∙ ap (λ (r : Result Label OpenFault). r >>= behind_label disk image) (ap (λ (b : List ℕ). blamed failed.Label (label_of disk.bsize disk.count b)) (sym is) ∙ good)
 
-pub answered : (unit : ℕ) (disk : Disk) (told : Option Journal) (image : Journal → Image) (label : Label) (bytes : List ℕ) (r : Result Holding OpenFault) → 6 ≤ disk.count
+pub answered : (unit : ℕ) (disk : Disk) (told : Option Journal) (image : Journal → Image) (label : Label) (bytes : List ℕ) (r : Result Held OpenFault) → 6 ≤ disk.count
     → ((j : Journal) → told ≡ Some j → bytes ≡ image j 3) → blamed failed.Label (label_of disk.bsize disk.count bytes) ≡ Ok label
     → IfOk r (λ held. (j : Journal) → told ≡ Some j → HasVolume unit disk (image j) label held.volume)
     → IfErr r (λ why. (j : Journal) → told ≡ Some j → IsFaultOf (behind_label disk (image j) label) why)

@@ -10,8 +10,8 @@ use Rattle.cms_journal.specs.Told.{Told, plus}
 use Rattle.cms_model.specs.Settled.{Write, writes}
 use Rattle.cms_world.specs.Seen.{Seen, OnUnits}
 use Rattle.cms_held.proofs.Fronts.{IsWriteAt, wrote_none, wrote_next, failed_next, wrote_all, wrote_behind, failed_behind, failed_before}
-use Rattle.cms_edf.specs.declared.writing.Target.{Target}
-use Rattle.cms_edf.specs.Writing.{MayWrite, Made, Writes}
+use Rattle.cms_edf.specs.declared.block_writes.Target.{Target}
+use Rattle.cms_edf.specs.BlockWrites.{MayWrite, Made, Writes}
 
 -- what is told of a call of a unit leaves its blocks as they are
 pub may_still : (t : Target) (mid new : Told) (e : Event) → new ≡ adds e mid → MayWrite mid t → MayWrite new t

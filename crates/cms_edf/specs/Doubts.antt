@@ -5,10 +5,10 @@ use Rattle.cms_journal.specs.Told.{Told, plus}
 use Rattle.cms_model.specs.Settled.{Write, update, writes}
 use Rattle.cms_model.specs.Sizes.{pointer_count}
 use Rattle.cms_model.specs.LawsUpdates.{AddsFront, to_label, with_label}
-use Rattle.cms_held.specs.Opening.{HeldTree}
+use Rattle.cms_held.specs.HeldVolumes.{HeldTree}
 use Rattle.cms_held.specs.Systems.{Systems, TreePart, data_writes, leaf_writes, map_piece, nodes_at, system_writes}
-use Rattle.cms_edf.specs.Writing.{IsBlockOf}
-use Rattle.cms_edf.specs.declared.writing.Target.{Target}
+use Rattle.cms_edf.specs.BlockWrites.{IsBlockOf}
+use Rattle.cms_edf.specs.declared.block_writes.Target.{Target}
 use Rattle.cms_edf.specs.declared.doubt.Doubt.{Doubt}
 use Rattle.cms_edf.specs.declared.doubt.Doubt.TheVariants.{Old, Either}
 

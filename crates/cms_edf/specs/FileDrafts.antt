@@ -21,15 +21,15 @@ use Rattle.cms_model.specs.Sizes.{levels, pointer_count}
 use Rattle.cms_map.specs.Bits.{free_blocks}
 use Rattle.cms_tree.specs.Builds.{root_of}
 use Rattle.cms_held.specs.Kept.{IsSized}
-use Rattle.cms_held.specs.Opening.{HeldFile, HeldTree, HeldVolume, names_in}
+use Rattle.cms_held.specs.HeldVolumes.{HeldFile, HeldTree, HeldVolume, names_in}
 use Rattle.cms_held.specs.Systems.{Systems}
-use Rattle.cms_held.specs.Renewing.{Edit, blocks_in, renewed}
-use Rattle.cms_held.specs.Carrying.{IsHeldMinidisk, IsReadyFor, written_count}
+use Rattle.cms_held.specs.Renewals.{Edit, blocks_in, renewed}
+use Rattle.cms_held.specs.MinidiskUpdates.{IsHeldMinidisk, IsReadyFor, written_count}
 use Rattle.cms_held.specs.Drafts.{Front, HasDraft, stored_on}
-use Rattle.cms_held.specs.LawsRenewing.{writes_of}
-use Rattle.cms_held.specs.Putting.{AreFree, IsPutOf, count_put, limit_put, need_put}
-use Rattle.cms_draft.specs.BlockWriting.{its_blocks, written_with}
-use Rattle.cms_draft.specs.Drafting.{Drafting, marks_in, start_in}
+use Rattle.cms_held.specs.LawsRenewals.{writes_of}
+use Rattle.cms_held.specs.Puts.{AreFree, IsPutOf, count_put, limit_put, need_put}
+use Rattle.cms_draft.specs.BlockWriters.{its_blocks, written_with}
+use Rattle.cms_draft.specs.FileWriters.{FileWriter, marks_in, start_in}
 use Rattle.cms_draft.specs.declared.shape.DraftShape.{DraftShape}
 use Rattle.cms_edf.specs.Doubts.{Updates}
 use Rattle.cms_edf.specs.declared.allotment.PlanFault.{PlanFault}
@@ -38,13 +38,13 @@ use Rattle.cms_edf.specs.declared.doubt.Doubt.TheVariants.{Old, Either}
 use Rattle.cms_edf.specs.declared.allotment.PlanFault.TheVariants as failed
 
 -- a file that is drafted: its entry, its records as far as they were put, and what is written then but its own blocks
-pub record FileDraft : Type 0 where
+pub record Draft : Type 0 where
   pub entry : Entry
-  pub writer : Drafting
+  pub writer : FileWriter
   pub systems : Systems
 
 -- the numbers of its blocks
-abbrev pub tree_of : FileDraft → HeldTree
+abbrev pub tree_of : Draft → HeldTree
 tree_of d = d.writer.writer.tree
 
 -- an entry for a file of this shape over a tree
@@ -122,7 +122,7 @@ pub record IsFilePlanned (v : HeldVolume) (name : Name) (shape : DraftShape) (st
   pub room : need_put v name shape.format shape.bytes ≤ length (free_blocks v.bits)
 
 -- a draft is of such a file, wherever its records begin
-pub record IsDraftFor (v : HeldVolume) (name : Name) (shape : DraftShape) (stamp : Stamp) (d : FileDraft) : Type 0 where
+pub record IsDraftFor (v : HeldVolume) (name : Name) (shape : DraftShape) (stamp : Stamp) (d : Draft) : Type 0 where
   pub entry_is : d.entry ≡ entry_for v.disk.bsize name shape (tree_of d)
   pub shape_is : d.writer.shape ≡ shape
   pub unit_is : d.writer.writer.unit ≡ v.unit
@@ -140,7 +140,7 @@ IsRefused v name shape failed.Memory = ⊤
 
 -- a draft is planned for some file, a new one or one that grows: it fits in, its own blocks are free and none of the file's stands twice,
 -- and this is written for it then
-pub record IsSomeDraft (v : HeldVolume) (d : FileDraft) : Type 0 where
+pub record IsSomeDraft (v : HeldVolume) (d : Draft) : Type 0 where
   pub name : Name
   pub shape : DraftShape
   pub stamp : Stamp
@@ -173,20 +173,20 @@ pub record StaysHeld (j : Journal) (new : Told) (v : HeldVolume) (m : Minidisk) 
   pub each : (p : List Event) → IsFront p events → IsHeldMinidisk (after j p) v m
 
 -- what was written of a file with these records behind what comes in front stands in the contents
-abbrev pub DraftStands : Journal → Drafting → Front → List (List ℕ) → Type 0
+abbrev pub DraftStands : Journal → FileWriter → Front → List (List ℕ) → Type 0
 DraftStands j d front records = HasDraft (now j d.writer.unit) d.writer.bsize d.writer.psize d.writer.tree.leaves
     (marks_in d front records) d.writer.tree.pointers d.writer.kept front.nodes
     (stored_on d.shape.format front records) d.writer.whole
 
 -- it does so when a record was put, also where the device failed
-abbrev pub StandsThen : Told → Drafting → Drafting → Front → List (List ℕ) → Result ⊤ Failed → Type 0
+abbrev pub StandsThen : Told → FileWriter → FileWriter → Front → List (List ℕ) → Result ⊤ Failed → Type 0
 StandsThen new d d' front records (Ok x) = ForSome new (λ k. DraftStands k d' front records)
 StandsThen new d d' front records (Err e) = ForSome new (λ k. DraftStands k d front records)
 
 -- ---- once all are put
 
 -- the file that it is with these records
-abbrev pub put_in : FileDraft → List (List ℕ) → File
+abbrev pub put_in : Draft → List (List ℕ) → File
 put_in d records = record {
   name = d.entry.name;
   number = d.entry.number;
@@ -197,28 +197,28 @@ put_in d records = record {
 }
 
 -- what was written of it while its records were put
-abbrev pub put_writes : FileDraft → Front → List (List ℕ) → List Write
+abbrev pub put_writes : Draft → Front → List (List ℕ) → List Write
 put_writes d front records = written_with d.writer.writer front.nodes (stored_on d.writer.shape.format front records)
     (marks_in d.writer front records) d.writer.writer.whole
 
 -- the blocks of the file that aren't written yet
-pub record IsLeft (d : FileDraft) (front : Front) (records : List (List ℕ)) (rest : List Write) : Type 0 where
+pub record IsLeft (d : Draft) (front : Front) (records : List (List ℕ)) (rest : List Write) : Type 0 where
   pub is : put_writes d front records ++ rest
       ≡ written_with d.writer.writer front.nodes (stored_on d.writer.shape.format front records) (marks_in d.writer front records)
       (length d.writer.writer.tree.leaves)
 
 -- all writes before the label's
-abbrev pub commit_writes : HeldVolume → FileDraft → List Write → List Write
+abbrev pub commit_writes : HeldVolume → Draft → List Write → List Write
 commit_writes v d rest = rest ++ writes_of v d.systems
 
 -- the events of its commit, or where it was cut off
-abbrev pub CommitEvents : Told → Told → HeldVolume → FileDraft → List Write → Result ⊤ Doubt → Type 0
+abbrev pub CommitEvents : Told → Told → HeldVolume → Draft → List Write → Result ⊤ Doubt → Type 0
 CommitEvents old new v d rest result = Updates old new v.unit (commit_writes v d rest) d.systems.label_bytes result
 
 -- the change is made with these writes of the file before and the ones that are left; up to the write of the label the old minidisk is
 -- held as before, at every moment each crash image is the old minidisk or the new, and all that is written, as one update, is at most two
 -- blocks more than the change needs
-pub record MakesChange (j : Journal) (v : HeldVolume) (d : FileDraft) (done rest : List Write) (m : Minidisk) (change : Change) :
+pub record MakesChange (j : Journal) (v : HeldVolume) (d : Draft) (done rest : List Write) (m : Minidisk) (change : Change) :
     Type 0 where
   pub answer : answer_of m change ≡ Changed (changed m change)
   pub before : (p : List Event) → IsFront p (to_label v.unit (commit_writes v d rest)) → IsHeldMinidisk (after j p) v m
@@ -227,7 +227,7 @@ pub record MakesChange (j : Journal) (v : HeldVolume) (d : FileDraft) (done rest
   pub small : written_count (update v.unit (done ++ commit_writes v d rest) d.systems.label_bytes) ≤ need m change + 2
 
 -- what it comes to: the new minidisk is held, as w, or the old one still is, or each crash image is one of both
-abbrev pub Commits : Journal → Told → HeldVolume → HeldVolume → Minidisk → FileDraft → List Write → List Write → Change → Result ⊤ Doubt
+abbrev pub Commits : Journal → Told → HeldVolume → HeldVolume → Minidisk → Draft → List Write → List Write → Change → Result ⊤ Doubt
     → Type 0
 Commits j new v w m d done rest change (Ok x) = MakesChange j v d done rest m change
     × ForSome new (λ k. IsHeldMinidisk k w (changed m change))
@@ -236,19 +236,19 @@ Commits j new v w m d done rest change (Err Either) = MakesChange j v d done res
     × ForSome new (λ k. HasEither v.disk k v.unit (Volume m) (Volume (changed m change)))
 
 -- the volume after it
-abbrev pub LeadsToFile : HeldVolume → FileDraft → HeldVolume → Type 0
+abbrev pub LeadsToFile : HeldVolume → Draft → HeldVolume → Type 0
 LeadsToFile v d w = (some : IsSomeDraft v d) → w ≡ renewed v (some.edit (start_in d.writer)) d.systems
 
 -- it was committed, or cut off, with these records behind what comes in front: so many blocks of the file were left, and these are the
 -- events
-pub record IsCommitted (old new : Told) (v : HeldVolume) (d : FileDraft) (front : Front) (records : List (List ℕ)) (r : Result ⊤ Doubt) :
+pub record IsCommitted (old new : Told) (v : HeldVolume) (d : Draft) (front : Front) (records : List (List ℕ)) (r : Result ⊤ Doubt) :
     Type 0 where
   pub rest : List Write
   pub left : IsLeft d front records rest
   pub events : CommitEvents old new v d rest r
 
 -- and what that comes to, which is this change
-pub record IsCommittedAt (j : Journal) (new : Told) (v w : HeldVolume) (m : Minidisk) (d : FileDraft) (front : Front)
+pub record IsCommittedAt (j : Journal) (new : Told) (v w : HeldVolume) (m : Minidisk) (d : Draft) (front : Front)
     (records : List (List ℕ)) (change : Change) (r : Result ⊤ Doubt) :
     Type 0 where
   pub rest : List Write

@@ -1,7 +1,7 @@
 -- The entries of files of which one is another, or whose stamps are moved, told one by one.
 use Rattle.std.specs.Prelude.{◌≡◌, ◌⊎◌, ℕ, ◌+◌, ◌≤◌, List, [], ◌∷◌, ◌++◌, map, slice_set, take}
 use Rattle.cms_fields.specs.declared.entry.Entry.{Entry}
-use Rattle.cms_held.specs.Renewing.{moved_entry}
+use Rattle.cms_held.specs.Renewals.{moved_entry}
 use Rattle.cms_edf.specs.declared.new_entries.Alteration.{Alteration}
 use Rattle.cms_edf.specs.declared.new_entries.Alteration.TheVariants.{Other, Moved}
 

@@ -14,12 +14,12 @@ use Rattle.cms_records.specs.declared.sizes.VarSizes.{VarSizes}
 use Rattle.cms_tree.specs.Walks.{nodes, nodes_at}
 use Rattle.cms_tree.specs.declared.types.TreeAt.{TreeAt}
 use Rattle.cms_tree.specs.declared.types.Walked.{Walked}
-use Rattle.cms_edf.specs.declared.open.Place.{Place}
-use Rattle.cms_edf.specs.declared.open.Listing.{Listing}
+use Rattle.cms_edf.specs.declared.listing.Place.{Place}
+use Rattle.cms_edf.specs.declared.listing.Listing.{Listing}
 use Rattle.cms_edf.specs.declared.volume.Trees.{Trees}
 use Rattle.cms_edf.specs.declared.contents.RecordsTold.{RecordsTold}
+use Rattle.cms_held.specs.HeldVolumes.{IsFaultOf, HeldFile, HeldVolume, size_of, held_of}
 use Rattle.cms_held.specs.Marks.{start_of}
-use Rattle.cms_held.specs.Opening.{IsFaultOf, HeldFile, HeldVolume, size_of, held_of}
 use Rattle.cms_edf.specs.OpeningSteps.{Listed, Treed, listed, met_in, system_at, listed_in, trees_in, lost_in}
 
 -- where the tree of a file stands, whose root's number is in a block of the directory

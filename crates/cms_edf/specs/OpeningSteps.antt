@@ -15,9 +15,9 @@ use Rattle.cms_model.specs.declared.fault.OpenFault.TheVariants as failed
 use Rattle.cms_tree.specs.declared.types.TreeAt.{TreeAt}
 use Rattle.cms_tree.specs.declared.types.Walked.{Walked}
 use Rattle.cms_tree.specs.Walks.{tree_at, nodes_at}
-use Rattle.cms_edf.specs.declared.open.Place.{Place}
-use Rattle.cms_edf.specs.declared.open.Listing.{Listing}
-use Rattle.cms_held.specs.Opening.{IsFaultOf}
+use Rattle.cms_edf.specs.declared.listing.Place.{Place}
+use Rattle.cms_edf.specs.declared.listing.Listing.{Listing}
+use Rattle.cms_held.specs.HeldVolumes.{IsFaultOf}
 
 -- what holds of the image of a unit, where the journal is told
 abbrev pub OfImage : Option Journal → ℕ → (Image → Type 0) → Type 0

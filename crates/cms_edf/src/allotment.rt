@@ -6,22 +6,22 @@ ghost use Rattle.cms_fields.specs.Numbers.{up};
 ghost use Rattle.cms_fields.specs.Limits.{most_files};
 ghost use Rattle.cms_model.specs.DirectoryParts.{blocks_made, directory_count};
 ghost use Rattle.cms_model.specs.Lists.{In};
-ghost use Rattle.cms_model.specs.Sharing.{MayBeWritten};
+ghost use Rattle.cms_model.specs.SharedTrees.{MayBeWritten};
 ghost use Rattle.cms_model.specs.Sizes.{map_size, pointer_count};
 ghost use Rattle.cms_map.specs.Bits.{HasFixed, free_blocks, with_marked};
 ghost use Rattle.cms_map.specs.Touched.{AreTouched};
 ghost use Rattle.cms_tree.specs.Paths.{fresh_places};
-ghost use Rattle.cms_held.specs.Allotting.{KeepsTree, on_map};
+ghost use Rattle.cms_held.specs.Allotments.{KeepsTree, on_map};
 ghost use Rattle.cms_held.specs.Kept.{Keeps};
 ghost use Rattle.cms_held.specs.MapShares.{turned};
-ghost use Rattle.cms_held.specs.Renewing.{with_freed};
-ghost use Rattle.cms_edf.specs.Allotting.{IsAllottedFor, MapIsShared, SharesDirectory, given_back, need_of, numbers_in, numbers_made};
-ghost use Rattle.cms_edf.specs.Lacking.{LacksRoom};
+ghost use Rattle.cms_held.specs.Renewals.{with_freed};
+ghost use Rattle.cms_edf.specs.Allotments.{IsAllottedFor, MapIsShared, SharesDirectory, given_back, need_of, numbers_in, numbers_made};
+ghost use Rattle.cms_edf.specs.NoRoom.{LacksRoom};
 ghost use Rattle.cms_edf.specs.declared.allotment.PlanFault.TheVariants.{Memory};
 
-use crate::held::{Held, TreeBlocks};
+use crate::held::{Held, HeldTree};
 use crate::system::ENTRY_SIZE;
-use crate::tree_part::{WrittenPlaces, first_numbers, left_blocks, shared_tree};
+use crate::tree_part::{TreePart, first_numbers, left_blocks, shared_tree};
 use cms_journal::BlockSize;
 use cms_map::Map;
 use cms_tree::shape;
@@ -81,10 +81,10 @@ pub struct Exchange<'a> {
 pub struct Allotment {
     /// those of a file, in order
     pub file: Vec<u32>,
-    pub directory: TreeBlocks,
-    pub directory_part: WrittenPlaces,
-    pub map_tree: TreeBlocks,
-    pub map_part: WrittenPlaces,
+    pub directory: HeldTree,
+    pub directory_part: TreePart,
+    pub map_tree: HeldTree,
+    pub map_part: TreePart,
     pub map: Map,
 }
 
@@ -197,8 +197,8 @@ pub fn take_blocks(alloc: Global, map: &Map, count: u32) -> Result<Taken, AllocE
 // The part of the directory that is written, and the tree that it comes to.
 #[derive(Drop)]
 struct SharedPart {
-    tree: TreeBlocks,
-    places: WrittenPlaces,
+    tree: HeldTree,
+    places: TreePart,
     // the blocks that are given back
     left: Vec<u32>,
 }
@@ -208,7 +208,7 @@ fn share_directory(
     alloc: Global,
     held: &Held,
     files: u32,
-    places: WrittenPlaces,
+    places: TreePart,
     blocks: &[u32],
 ) -> Result<SharedPart, AllocError>
     requires few { files ≤ most_files }
@@ -246,7 +246,7 @@ fn share_map(
 {
     let fan = held.bsize.bytes() / 4;
     let count = held.map_tree.leaves().len() as u32;
-    let places = WrittenPlaces::of_shared(alloc, count, count, fan, written)?;
+    let places = TreePart::of_shared(alloc, count, count, fan, written)?;
     let tree = shared_tree(alloc, &held.map_tree, count, fan, &places, blocks)?;
     let left = left_blocks(alloc, &held.map_tree, count, fan, &places.leaves)?;
     Ok(SharedPart { tree, places, left })
@@ -357,7 +357,7 @@ fn new_map(
 }
 
 /// How many blocks of a tree are written.
-pub fn written_count(places: &WrittenPlaces) -> u32
+pub fn written_count(places: &TreePart) -> u32
     requires { length places.now.leaves + length places.now.nodes < 2 ^ 32 }
     ensures { result ≡ length places.now.leaves + length places.now.nodes }
 {
@@ -409,7 +409,7 @@ fn allot_all(
     alloc: Global,
     held: &Held,
     exchange: &Exchange<'_>,
-    places: WrittenPlaces,
+    places: TreePart,
     need: u32,
 ) -> Result<Allotment, AllocError>
     requires few { exchange.now.files ≤ most_files }
@@ -448,7 +448,7 @@ fn directory_places(
     alloc: Global,
     held: &Held,
     exchange: &Exchange<'_>,
-) -> Result<WrittenPlaces, AllocError>
+) -> Result<TreePart, AllocError>
     requires few { exchange.now.files ≤ most_files }
     ensures leaves { IfOk result (λ p. p.leaves
         ≡ blocks_made held.now.volume.disk.bsize exchange.now.files (numbers_made exchange.now)) }
@@ -461,7 +461,7 @@ fn directory_places(
     let written = blocks_made(alloc, held.bsize, exchange.files, exchange.made)?;
     let count = (ENTRY_SIZE * (exchange.files + 2)).div_ceil(bsize);
     let before = held.directory.leaves().len() as u32;
-    WrittenPlaces::of_shared(alloc, before, count, bsize / 4, written)
+    TreePart::of_shared(alloc, before, count, bsize / 4, written)
 }
 
 // The blocks of the map, as many as it is charged for.

@@ -2,7 +2,7 @@
 ghost use Rattle.std.specs.Prelude.{◌≡◌, ◌≤◌, ◌+◌, ◌++◌, ◌∷◌, [], length, IfOk, IfErr, OnOk};
 ghost use Rattle.cms_model.specs.declared.fault.OpenFault.TheVariants.{Memory};
 
-use crate::held::TreeBlocks;
+use crate::held::HeldTree;
 use cms_model::OpenFault;
 pub use cms_world::{ReadFault, read_block};
 use std::alloc::{AllocError, Global};
@@ -42,14 +42,14 @@ pub fn push<T: Drop>(into: &mut Vec<T>, item: T) -> Result<(), OpenFault>
 }
 
 /// A tree of these blocks, of which the first so many are its data blocks.
-pub fn tree_in(alloc: Global, blocks: &[u32], count: u32) -> Result<TreeBlocks, AllocError>
+pub fn tree_in(alloc: Global, blocks: &[u32], count: u32) -> Result<HeldTree, AllocError>
     requires { count ≤ length blocks.now }
     ensures blocks { IfOk result (λ t. t.leaves ++ t.pointers ≡ blocks.now) }
     ensures count { IfOk result (λ t. length t.leaves ≡ count) }
     ensures pointers { IfOk result (λ t. count + length t.pointers ≡ length blocks.now) }
 {
     let (leaves, pointers) = blocks.split_at(count as usize);
-    Ok(TreeBlocks {
+    Ok(HeldTree {
         leaves: copied(alloc, leaves)?,
         pointers: copied(alloc, pointers)?,
     })

@@ -1,12 +1,12 @@
 // A change of a volume, and what it does to the files that are held.
 ghost use Rattle.std.specs.Prelude.{◌≡◌, ◌≤◌, ◌<◌, length, slice_get, Some};
 ghost use Rattle.indexmap.specs.IndexMap.{spare, values};
-ghost use Rattle.cms_held.specs.Opening.{by_name};
-ghost use Rattle.cms_held.specs.Renewing.{Edit};
-ghost use Rattle.cms_edf.specs.Planning.{DoesTo, MayEdit};
+ghost use Rattle.cms_held.specs.HeldVolumes.{by_name};
+ghost use Rattle.cms_held.specs.Renewals.{Edit};
+ghost use Rattle.cms_edf.specs.ChangePlans.{DoesTo, MayEdit};
 
-use crate::editing::{drop_file, move_stamps, rename_file};
-use crate::held::FileHeld;
+use crate::file_edits::{drop_file, move_stamps, rename_file};
+use crate::held::HeldFile;
 use cms_names::Name;
 use indexmap::IndexMap;
 
@@ -44,7 +44,7 @@ pub enum FileEdit {
 
 impl FileEdit {
     /// Edits the files.
-    pub fn edit_files(&self, files: &mut IndexMap<Name, FileHeld>)
+    pub fn edit_files(&self, files: &mut IndexMap<Name, HeldFile>)
         requires may { MayEdit (values files.old) self.now }
         requires named { files.old.entries ≡ by_name (values files.old) }
         requires room { 1 ≤ spare files.old }

@@ -13,7 +13,7 @@ ghost use Rattle.cms_records.specs.Scans.{IsFed, filled_by, sizes_in};
 ghost use Rattle.cms_model.specs.Records.{varying};
 ghost use Rattle.cms_held.specs.Marks.{start_of};
 ghost use Rattle.cms_tree.specs.Walks.{IsWithin};
-ghost use Rattle.cms_held.specs.Opening.{IsFaultOf, by_name};
+ghost use Rattle.cms_held.specs.HeldVolumes.{IsFaultOf, by_name};
 ghost use Rattle.cms_held.specs.Kept.{IsKeptFile, IsSized};
 ghost use Rattle.cms_held.specs.Written.{ReadsBack};
 ghost use Rattle.cms_edf.specs.OpeningSteps.{OfImage, met_in};
@@ -23,8 +23,8 @@ ghost use Rattle.cms_fields.specs.Limits.{longest_record, most_bytes, most_files
 ghost use Rattle.cms_world.specs.Seen.{OnlyReads, seen};
 
 use crate::directory_bytes::spell_entry;
-use crate::held::FileHeld;
-use crate::open::Place;
+use crate::held::HeldFile;
+use crate::listing::Place;
 use crate::trees::{block_of, tree_held};
 use cms_fields::Entry;
 use cms_journal::BlockSize;
@@ -184,7 +184,7 @@ fn read_sizes<W: World>(
 
 // A file with its tree, and with what is told of its records: its entry tells their length, at V of the longest, whatever was found there. What
 // is written for that entry is read back as it.
-fn file_of(entry: Entry, tree: Walked, told: &RecordsTold) -> FileHeld
+fn file_of(entry: Entry, tree: Walked, told: &RecordsTold) -> HeldFile
     ensures is { result ≡ record {
       entry = record entry { length = told.now.sizes.longest };
       tree = record { leaves = tree.leaves.items; pointers = tree.pointers.items };
@@ -199,7 +199,7 @@ fn file_of(entry: Entry, tree: Walked, told: &RecordsTold) -> FileHeld
         ..entry
     };
     spell_entry(&entry);
-    FileHeld {
+    HeldFile {
         entry,
         tree: tree_held(tree),
         length: told.sizes.longest,
@@ -209,7 +209,7 @@ fn file_of(entry: Entry, tree: Walked, told: &RecordsTold) -> FileHeld
 }
 
 // Adds a file behind the others, none of which has its name.
-fn insert(files: &mut IndexMap<Name, FileHeld>, file: FileHeld) -> Result<(), OpenFault>
+fn insert(files: &mut IndexMap<Name, HeldFile>, file: HeldFile) -> Result<(), OpenFault>
     requires new { is_named file.entry.name (keys files.old) ≡ false }
     ensures ok { OnOk result (files.new.entries
         ≡ files.old.entries ++ ((file.entry.name, file) ∷ [])) }
@@ -229,7 +229,7 @@ pub fn read_contents<W: World>(
     place: &Place,
     entries: &[Entry],
     trees: Vec<Walked>,
-) -> Result<IndexMap<Name, FileHeld>, OpenFault>
+) -> Result<IndexMap<Name, HeldFile>, OpenFault>
     requires few { length entries.now ≤ most_files }
     requires count { length trees.items ≡ length entries.now }
     requires entries { All (λ e. passes place.now.bsize e ≡ true) entries.now }

@@ -7,8 +7,8 @@ ghost use Rattle.cms_tree.specs.Builds.{root_of};
 ghost use Rattle.cms_held.specs.Systems.{file_at, system_entry};
 ghost use Rattle.cms_held.specs.Written.{CanWrite, ReadsBack, directory_name, map_name, system_name};
 
-use crate::held::TreeBlocks;
-use crate::system::{ENTRY_SIZE, FIXED, POINTER_SIZE, System};
+use crate::held::HeldTree;
+use crate::system::{ENTRY_SIZE, FIXED, POINTER_SIZE, SystemFile};
 use cms_fields::{Entry, Stamp, write_entry, write_stamp};
 use cms_journal::BlockSize;
 use cms_text::bytes::{put, put_word};
@@ -30,7 +30,7 @@ fn system_name(number: u32, letters: &[u8; 8]) -> [u8; 16]
 }
 
 // The entry of a system file, with records of a length.
-fn system_entry(name: &[u8; 16], size: u32, file: &System, stamp: &Stamp) -> [u8; 64]
+fn system_entry(name: &[u8; 16], size: u32, file: &SystemFile, stamp: &Stamp) -> [u8; 64]
     requires { is_stamp stamp.now ≡ true }
     ensures { result ≡ system_entry name.now size file.now stamp.now }
 {
@@ -63,13 +63,13 @@ pub fn root(leaves: &[u32], pointers: &[u32]) -> u32
 }
 
 // Where the tree of a system file of so many records stands.
-fn file_at(bsize: BlockSize, tree: &TreeBlocks, count: u32) -> System
+fn file_at(bsize: BlockSize, tree: &HeldTree, count: u32) -> SystemFile
     requires some { 1 ≤ length tree.now.leaves }
     requires few { length tree.now.leaves < 2 ^ 32 }
     ensures { result ≡ file_at bsize tree.now count }
 {
     let blocks = tree.leaves().len() as u32;
-    System {
+    SystemFile {
         root: root(tree.leaves(), tree.pointers()),
         blocks,
         count,
@@ -87,8 +87,8 @@ pub struct SystemFields {
 /// The directory's own entry, of so many files, and the map's, with the stamp.
 pub fn system_fields(
     bsize: BlockSize,
-    directory: &TreeBlocks,
-    map: &TreeBlocks,
+    directory: &HeldTree,
+    map: &HeldTree,
     files: u32,
     stamp: &Stamp,
 ) -> SystemFields

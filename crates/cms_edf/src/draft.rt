@@ -7,8 +7,8 @@ ghost use Rattle.cms_fields.specs.Numbers.{up};
 ghost use Rattle.cms_fields.specs.Stamps.{is_stamp};
 ghost use Rattle.cms_model.specs.Sizes.{levels, pointer_count};
 ghost use Rattle.cms_held.specs.Kept.{Keeps};
-ghost use Rattle.cms_held.specs.Putting.{count_put, count_with, limit_put, made_with, need_put};
-ghost use Rattle.cms_held.specs.Renewing.{entries_held};
+ghost use Rattle.cms_held.specs.Puts.{count_put, count_with, limit_put, made_with, need_put};
+ghost use Rattle.cms_held.specs.Renewals.{entries_held};
 ghost use Rattle.cms_held.specs.Written.{CanWrite};
 ghost use Rattle.cms_edf.specs.FileDrafts.{CanDraft, DraftStands, GivenAt, IsSomeDraft, StandsThen, StaysHeld, IsDraftFor, IsPlaceIn, IsRefused, list_with, entry_for, tree_of};
 ghost use Rattle.std.specs.Option.{ForSome};
@@ -16,28 +16,28 @@ ghost use Rattle.cms_world.specs.Seen.{OnUnits, seen};
 ghost use Rattle.cms_journal.specs.Journal.{Journal};
 ghost use Rattle.cms_model.specs.Minidisks.{Minidisk};
 ghost use Rattle.cms_model.specs.Records.{Fits, stored};
-ghost use Rattle.cms_held.specs.Carrying.{IsHeldMinidisk};
 ghost use Rattle.cms_held.specs.Drafts.{Front};
-ghost use Rattle.cms_draft.specs.BlockWriting.{AddsOwnBlocks, CanWrite as CanWriteBlocks, IsSame, came};
-ghost use Rattle.cms_draft.specs.Drafting.{Drafts, IsDrafting, IsFresh, Puts};
+ghost use Rattle.cms_held.specs.MinidiskUpdates.{IsHeldMinidisk};
+ghost use Rattle.cms_draft.specs.BlockWriters.{AddsOwnBlocks, CanWrite as CanWriteBlocks, IsSame, came};
+ghost use Rattle.cms_draft.specs.FileWriters.{Drafts, IsDrafting, IsFresh, Puts};
 ghost use Rattle.cms_model.specs.Minidisks.{same_name};
-ghost use Rattle.cms_held.specs.Opening.{HeldFile, HeldVolume, names_in};
-ghost use Rattle.cms_edf.specs.Allotting.{IsAllottedFor, given_back, numbers_made};
-ghost use Rattle.cms_edf.specs.Growing.{IsFrontOf, IsMoreFor};
-ghost use Rattle.cms_edf.specs.Lacking.{LacksRoom};
+ghost use Rattle.cms_held.specs.HeldVolumes.{HeldFile, HeldVolume, names_in};
+ghost use Rattle.cms_edf.specs.Allotments.{IsAllottedFor, given_back, numbers_made};
+ghost use Rattle.cms_edf.specs.Growths.{IsFrontOf, IsMoreFor};
+ghost use Rattle.cms_edf.specs.NoRoom.{LacksRoom};
 ghost use Rattle.cms_names.specs.declared.name.Name as names;
 ghost use Rattle.cms_fields.specs.declared.time.Stamp as stamps;
 ghost use Rattle.cms_draft.specs.declared.shape.DraftShape as shapes;
-ghost use Rattle.cms_edf.specs.Planning.{IsFilled};
+ghost use Rattle.cms_edf.specs.ChangePlans.{IsFilled};
 ghost use Rattle.cms_edf.specs.declared.allotment.PlanFault.TheVariants.{Limit};
 
 use crate::allotment::{Allotment, Exchange, Made, PlanFault, allot};
 use crate::blocks::tree_in;
+use crate::change_plan::{FIRST_FILE, fill_systems};
 use crate::directory_bytes::root;
-use crate::held::{Held, TreeBlocks};
+use crate::held::{Held, HeldTree};
 use crate::new_entries::NewEntries;
-use crate::planning::{FIRST_FILE, fill_systems};
-use crate::system_blocks::SystemBlocks;
+use crate::system_blocks::Systems;
 use cms_draft::{DraftShape, FileWriter};
 use cms_fields::{Entry, MOST_BYTES, MOST_FILES, MOST_RECORDS, Stamp, pointer_size};
 use cms_journal::BlockSize;
@@ -53,13 +53,13 @@ use std::marker::Model;
 pub struct Draft {
     pub(crate) entry: Entry,
     pub(crate) writer: FileWriter,
-    pub(crate) systems: SystemBlocks,
+    pub(crate) systems: Systems,
 }
 
 impl Model for Draft {
-    ghost use Rattle.cms_edf.specs.FileDrafts.{FileDraft};
+    ghost use Rattle.cms_edf.specs.FileDrafts as drafts;
 
-    ghost Value = { FileDraft };
+    ghost Value = { drafts.Draft };
 
     ghost view = { λ d. record { entry = d.entry; writer = d.writer; systems = d.systems } };
 }
@@ -149,7 +149,7 @@ fn entries_made_with(held: &Held, place: Option<u32>) -> [u32; 2]
 }
 
 // The entry of a file over a tree of so many levels.
-pub(crate) fn entry_for(name: &Name, asked: &DraftShape, tree: &TreeBlocks, height: u8) -> Entry
+pub(crate) fn entry_for(name: &Name, asked: &DraftShape, tree: &HeldTree, height: u8) -> Entry
     requires some { 1 ≤ length tree.now.leaves }
     requires few { length tree.now.leaves < 2 ^ 32 }
     ensures { (bsize : ℕ) → height ≡ levels (fan_of bsize asked.now.format) (length tree.now.leaves)
@@ -177,7 +177,7 @@ pub(crate) fn plan_entry(
     exchange: &Exchange<'_>,
     allotment: Allotment,
     stamp: &Stamp,
-) -> Result<SystemBlocks, AllocError>
+) -> Result<Systems, AllocError>
     requires stamp { is_stamp stamp.now ≡ true }
     requires place { IsPlaceIn held.now.volume.files place }
     requires few { count_with place (length held.now.volume.files) ≤ most_files }

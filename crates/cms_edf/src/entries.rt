@@ -5,7 +5,7 @@ ghost use Rattle.cms_fields.specs.Entries.{entry_of};
 ghost use Rattle.cms_model.specs.Lists.{cut};
 ghost use Rattle.cms_model.specs.Volumes.{as_read, blamed, entries_of, first_twice};
 ghost use Rattle.cms_model.specs.declared.fault.OpenFault.TheVariants as failed;
-ghost use Rattle.cms_held.specs.Opening.{IsFaultOf};
+ghost use Rattle.cms_held.specs.HeldVolumes.{IsFaultOf};
 ghost use Rattle.cms_fields.specs.Limits.{most_files};
 
 use crate::blocks::push;

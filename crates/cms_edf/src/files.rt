@@ -8,7 +8,7 @@ ghost use Rattle.cms_model.specs.Trees.{image_of};
 ghost use Rattle.cms_model.specs.Volumes.{holder_of, file_trees, tree_blocks};
 ghost use Rattle.cms_model.specs.declared.fault.OpenFault.TheVariants.{Device, Memory};
 ghost use Rattle.cms_tree.specs.Walks.{IsWithin};
-ghost use Rattle.cms_held.specs.Opening.{IsFaultOf};
+ghost use Rattle.cms_held.specs.HeldVolumes.{IsFaultOf};
 ghost use Rattle.cms_edf.specs.OpeningSteps.{OfImage, met_in};
 ghost use Rattle.cms_edf.specs.EntryShapes.{HasShape};
 ghost use Rattle.cms_edf.specs.OpeningFiles.{file_at, ReadsFile, HasFiles, HaveCounts};
@@ -16,7 +16,7 @@ ghost use Rattle.cms_fields.specs.Limits.{most_files};
 ghost use Rattle.cms_world.specs.Seen.{OnlyReads, seen};
 
 use crate::blocks::{append, push};
-use crate::open::Place;
+use crate::listing::Place;
 use crate::system::ENTRY_SIZE;
 use crate::trees::tree_of;
 use cms_fields::{Entry, pointer_size};

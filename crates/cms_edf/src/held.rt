@@ -2,12 +2,12 @@
 ghost use Rattle.std.specs.Prelude.{◌≡◌, ◌<◌, ◌≤◌, Some, IsSome, OnOk, length, map, position, slice_get};
 ghost use Rattle.indexmap.specs.IndexMap.{keys, values};
 ghost use Rattle.cms_model.specs.Minidisks.{same_name};
-ghost use Rattle.cms_held.specs.Opening.{names_in};
+ghost use Rattle.cms_held.specs.HeldVolumes.{names_in};
 ghost use Rattle.cms_held.specs.Kept.{Keeps};
-ghost use Rattle.cms_edf.specs.Asking.{info_of, infos_in, leaves_in, space_of, stored_in};
+ghost use Rattle.cms_edf.specs.FilesTold.{info_of, infos_in, leaves_in, space_of, stored_in};
 
 use cms_fields::{Entry, Label, Stamp};
-pub use cms_held::TreeBlocks;
+pub use cms_held::HeldTree;
 use cms_journal::BlockSize;
 use cms_map::Map;
 use cms_names::{Format, Name};
@@ -17,24 +17,24 @@ use std::marker::Model;
 
 /// A file of an open volume: all of it but its data.
 #[derive(Drop)]
-pub struct FileHeld {
+pub struct HeldFile {
     pub(crate) entry: Entry,
-    pub(crate) tree: TreeBlocks,
+    pub(crate) tree: HeldTree,
     pub(crate) length: u32,
     pub(crate) size: u32,
     // where at V the first record begins in the data block that its records fill in part, or u32::MAX
     pub(crate) start: u32,
 }
 
-impl Model for FileHeld {
-    ghost use Rattle.cms_held.specs.Opening.{HeldFile};
+impl Model for HeldFile {
+    ghost use Rattle.cms_held.specs.HeldVolumes as volumes;
 
-    ghost Value = { HeldFile };
+    ghost Value = { volumes.HeldFile };
 
     ghost view = { λ f. record { entry = f.entry; tree = f.tree; length = f.length; size = f.size; start = f.start } };
 }
 
-impl FileHeld {
+impl HeldFile {
     /// What the directory says of the file.
     pub fn entry(&self) -> &Entry
         ensures { result.now ≡ self.now.entry }
@@ -50,7 +50,7 @@ impl FileHeld {
     }
 
     // Its blocks.
-    pub(crate) fn tree(&self) -> &TreeBlocks
+    pub(crate) fn tree(&self) -> &HeldTree
         ensures { result.now ≡ self.now.tree }
     {
         &self.tree
@@ -132,20 +132,20 @@ pub struct Held {
     pub(crate) blocks: u32,
     pub(crate) label: Label,
     pub(crate) label_bytes: Vec<u8>,
-    pub(crate) directory: TreeBlocks,
-    pub(crate) map_tree: TreeBlocks,
+    pub(crate) directory: HeldTree,
+    pub(crate) map_tree: HeldTree,
     pub(crate) map: Map,
-    pub(crate) files: IndexMap<Name, FileHeld>,
+    pub(crate) files: IndexMap<Name, HeldFile>,
     pub(crate) lost: u32,
 }
 
 impl Model for Held {
     ghost use Rattle.std.specs.Prelude.{◌≡◌, length};
     ghost use Rattle.indexmap.specs.IndexMap.{values, spare};
-    ghost use Rattle.cms_held.specs.Opening.{Holding};
-    ghost use Rattle.cms_edf.specs.Keeping.{IsSound};
+    ghost use Rattle.cms_held.specs.HeldVolumes as volumes;
+    ghost use Rattle.cms_edf.specs.Soundness.{IsSound};
 
-    ghost Value = { Holding };
+    ghost Value = { volumes.Held };
 
     ghost view = { λ h. record {
       volume = record {
@@ -252,7 +252,7 @@ impl Held {
     }
 
     /// The files by their names, in the order of the directory.
-    pub fn by_name(&self) -> &IndexMap<Name, FileHeld>
+    pub fn by_name(&self) -> &IndexMap<Name, HeldFile>
         ensures names { keys result.now ≡ names_in self.now.volume.files }
         ensures files { values result.now ≡ self.now.volume.files }
         ensures kept { Keeps self.now.volume }

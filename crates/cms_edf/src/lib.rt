@@ -2,47 +2,47 @@
 #![tactic(auto)]
 
 mod allotment;
+mod block_writes;
 mod blocks;
-mod carrying;
 mod change;
-mod committing;
+mod change_plan;
 mod contents;
 mod directory_bytes;
 mod doubt;
 mod draft;
-mod editing;
+mod draft_commit;
+mod empty_volume;
 mod entries;
+mod file_edits;
 mod files;
-mod growing;
+mod growth;
 mod held;
-mod making;
+mod listing;
 mod met;
 mod new_entries;
-mod open;
-mod opening;
-mod planning;
+mod opened_volume;
 mod step;
 mod system;
 mod system_blocks;
 mod tree_part;
 mod trees;
+mod update;
 mod volume;
-mod writing;
 
 pub use allotment::PlanFault;
-pub use carrying::carry_out;
 pub use change::Change;
+pub use change_plan::plan;
 pub use cms_draft::DraftShape;
 pub use cms_held::{
     carrying_laws, draft_laws, held_laws, making_laws, put_laws, renewal_laws, systems_laws,
 };
 pub use cms_model::{FileData, OpenFault, Stored, VarFault};
-pub use committing::commit;
 pub use doubt::Doubt;
 pub use draft::{Draft, plan_draft, plan_draft_at};
-pub use growing::{MoreFault, plan_more};
-pub use held::{FileHeld, FileInfo, Held, Space};
-pub use making::{MakePlan, make, plan_make, wipe};
-pub use opening::open_volume;
-pub use planning::plan;
+pub use draft_commit::commit;
+pub use empty_volume::{MakePlan, make, plan_make, wipe};
+pub use growth::{MoreFault, plan_more};
+pub use held::{FileInfo, Held, HeldFile, Space};
+pub use opened_volume::open_volume;
 pub use step::Plan;
+pub use update::carry_out;

@@ -1,7 +1,7 @@
 // Which blocks were met, and which of them the map marks.
 ghost use Rattle.std.specs.Prelude.{◌≡◌, ◌≤◌, ◌<◌, ◌-◌, ◌^◌, ◌&&◌, not, ℕ, List, [], None, false, length, slice_index_or, IfOk, IfErr, Ok};
 ghost use Rattle.cms_model.specs.declared.fault.OpenFault.TheVariants.{Device};
-ghost use Rattle.cms_held.specs.Opening.{IsFaultOf};
+ghost use Rattle.cms_held.specs.HeldVolumes.{IsFaultOf};
 ghost use Rattle.cms_model.specs.Lists.{first_repeat};
 ghost use Rattle.cms_model.specs.Maps.{lowest_unmarked, lost_count};
 ghost use Rattle.cms_map.specs.Bits.{bits_in};

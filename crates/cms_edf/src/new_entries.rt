@@ -2,15 +2,15 @@
 ghost use Rattle.std.specs.Prelude.{◌≡◌, ◌≤◌, ◌<◌, All, Some, length, map, slice_get, swap_remove};
 ghost use Rattle.cms_fields.specs.declared.entry.Entry.{Entry};
 ghost use Rattle.cms_held.specs.Kept.{Keeps};
-ghost use Rattle.cms_held.specs.Renewing.{entries_held, moved_entry};
+ghost use Rattle.cms_held.specs.Renewals.{entries_held, moved_entry};
 ghost use Rattle.cms_held.specs.Written.{ReadsBack};
+ghost use Rattle.cms_edf.specs.ChangePlans.{Edited, MayEdit};
 ghost use Rattle.cms_edf.specs.FileDrafts.{IsPlaceIn, list_with};
-ghost use Rattle.cms_edf.specs.Planning.{Edited, MayEdit};
 
 use crate::change::FileEdit;
 use crate::directory_bytes::spell_entry;
-use crate::editing::moved_entry;
-use crate::held::{FileHeld, Held};
+use crate::file_edits::moved_entry;
+use crate::held::{Held, HeldFile};
 use cms_fields::Entry;
 use cms_names::Name;
 use indexmap::IndexMap;
@@ -29,7 +29,7 @@ pub enum Alteration {
 /// and no list of them is made.
 #[derive(Drop)]
 pub struct NewEntries<'a> {
-    files: &'a IndexMap<Name, FileHeld>,
+    files: &'a IndexMap<Name, HeldFile>,
     count: u32,
     alteration: Alteration,
 }
@@ -38,7 +38,7 @@ impl<'a> Model for NewEntries<'a> {
     ghost use Rattle.std.specs.Prelude.{List, length};
     ghost use Rattle.indexmap.specs.IndexMap.{values};
     ghost use Rattle.cms_fields.specs.declared.entry.Entry.{Entry};
-    ghost use Rattle.cms_held.specs.Renewing.{entries_held};
+    ghost use Rattle.cms_held.specs.Renewals.{entries_held};
     ghost use Rattle.cms_edf.specs.NewEntries.{AreAltered, altered};
 
     ghost Value = { List Entry };

@@ -1,6 +1,6 @@
 // A change of a volume that was planned.
 use crate::change::FileEdit;
-use crate::system_blocks::SystemBlocks;
+use crate::system_blocks::Systems;
 use cms_fields::Label;
 use std::marker::Model;
 
@@ -21,12 +21,6 @@ impl Model for Plan {
 /// What a change writes and what it does to the volume that is held.
 #[derive(Drop)]
 pub enum Step {
-    Edit {
-        edit: FileEdit,
-        systems: SystemBlocks,
-    },
-    Relabel {
-        label: Label,
-        label_bytes: Vec<u8>,
-    },
+    Edit { edit: FileEdit, systems: Systems },
+    Relabel { label: Label, label_bytes: Vec<u8> },
 }

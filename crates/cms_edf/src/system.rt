@@ -25,29 +25,29 @@ pub const FIXED: u8 = 0xC6;
 
 /// Where a system file stands: its root, data blocks, count of records and levels of pointer blocks.
 #[derive(Drop)]
-pub struct System {
+pub struct SystemFile {
     pub root: u32,
     pub blocks: u32,
     pub count: u32,
     pub levels: u8,
 }
 
-impl Model for System {
-    ghost use Rattle.cms_model.specs.Systems.{SystemFile};
+impl Model for SystemFile {
+    ghost use Rattle.cms_model.specs.Systems as systems;
 
-    ghost Value = { SystemFile };
+    ghost Value = { systems.SystemFile };
 
     ghost view = { λ s. record { root = s.root; blocks = s.blocks; count = s.count; levels = s.levels } };
 }
 
 // What the bytes of an entry say.
 #[tactic(auto, unfolding(cms_model::specs::Systems::system_fields))]
-fn system_fields(bytes: &[u8]) -> System
+fn system_fields(bytes: &[u8]) -> SystemFile
     requires { 64 ≤ length bytes.now }
     ensures is { result ≡ system_fields bytes.now }
     ensures few { result.blocks < 2 ^ 32 }
 {
-    System {
+    SystemFile {
         root: word_at(bytes, 40),
         blocks: word_at(bytes, 44),
         count: word_at(bytes, 48),
@@ -108,7 +108,7 @@ fn is_map(bsize: u32, total: u32, bytes: &[u8]) -> bool
 
 /// The directory, by its own entry, whose first block is at `origin`.
 #[tactic(auto, unfolding(cms_model::specs::Systems::directory_of))]
-pub fn directory_in(bsize: BlockSize, origin: u32, bytes: &[u8]) -> Result<System, OpenFault>
+pub fn directory_in(bsize: BlockSize, origin: u32, bytes: &[u8]) -> Result<SystemFile, OpenFault>
     requires long { 64 ≤ length bytes.now }
     ensures is { result ≡ directory_of bsize origin bytes.now }
     ensures device { IfErr result (λ e. e ≡ Device → ⊥) }
@@ -128,7 +128,7 @@ pub fn directory_in(bsize: BlockSize, origin: u32, bytes: &[u8]) -> Result<Syste
 
 /// The map of a volume of so many blocks, by its entry.
 #[tactic(auto, unfolding(cms_model::specs::Systems::map_of))]
-pub fn map_in(bsize: BlockSize, total: u32, bytes: &[u8]) -> Result<System, OpenFault>
+pub fn map_in(bsize: BlockSize, total: u32, bytes: &[u8]) -> Result<SystemFile, OpenFault>
     requires long { 64 ≤ length bytes.now }
     requires some { 1 ≤ total }
     ensures is { result ≡ map_of bsize total bytes.now }

@@ -2,13 +2,13 @@
 ghost use Rattle.std.specs.Prelude.{length};
 ghost use Rattle.cms_world.specs.Seen.{OnUnits, seen};
 ghost use Rattle.cms_held.specs.Systems.{system_writes};
+ghost use Rattle.cms_edf.specs.BlockWrites.{MayWrite, Writes};
 ghost use Rattle.cms_edf.specs.Doubts.{UpdatesSystems, target_of};
-ghost use Rattle.cms_edf.specs.Writing.{MayWrite, Writes};
 
+use crate::block_writes::{Target, write_directory, write_first, write_map_tree};
 use crate::doubt::{Doubt, confirm};
-use crate::held::TreeBlocks;
-use crate::tree_part::WrittenPlaces;
-use crate::writing::{Target, write_directory, write_first, write_map_tree};
+use crate::held::HeldTree;
+use crate::tree_part::TreePart;
 use cms_fields::Label;
 use cms_journal::BlockSize;
 use cms_map::Map;
@@ -20,23 +20,23 @@ pub const LARGEST: usize = 4096;
 
 /// A new directory, map and label, ready to be written.
 #[derive(Drop)]
-pub struct SystemBlocks {
+pub struct Systems {
     pub(crate) bsize: BlockSize,
     pub(crate) label: Label,
     pub(crate) label_bytes: Vec<u8>,
-    pub(crate) directory: TreeBlocks,
-    pub(crate) directory_part: WrittenPlaces,
+    pub(crate) directory: HeldTree,
+    pub(crate) directory_part: TreePart,
     pub(crate) directory_bytes: Vec<u8>,
-    pub(crate) map_tree: TreeBlocks,
-    pub(crate) map_part: WrittenPlaces,
+    pub(crate) map_tree: HeldTree,
+    pub(crate) map_part: TreePart,
     pub(crate) map: Map,
 }
 
-impl Model for SystemBlocks {
-    ghost use Rattle.cms_held.specs.Systems.{Systems};
+impl Model for Systems {
+    ghost use Rattle.cms_held.specs.Systems as systems;
     ghost use Rattle.cms_edf.specs.Doubts.{IsReady};
 
-    ghost Value = { Systems };
+    ghost Value = { systems.Systems };
 
     ghost view = { λ s. record {
       label = s.label;
@@ -61,7 +61,7 @@ impl Model for SystemBlocks {
     }) };
 }
 
-impl SystemBlocks {
+impl Systems {
     // Writes the directory and the map, but for the label.
     fn write<W: World>(&self, world: &mut W, unit: u8) -> Result<(), Failed>
         requires may { MayWrite (W.told world.old) (target_of unit self.now) }

@@ -2,30 +2,30 @@
 ghost use Rattle.std.specs.Prelude.{◌≡◌, ◌≤◌, ◌<◌, ◌+◌, ◌^◌, ℕ, length, take, IfOk};
 ghost use Rattle.std.specs.List.{range_with_len};
 ghost use Rattle.std.specs.List.Sorted.{IsStrictlyIncreasing};
-ghost use Rattle.cms_model.specs.Sharing.{MayBeWritten};
+ghost use Rattle.cms_model.specs.SharedTrees.{MayBeWritten};
 ghost use Rattle.cms_model.specs.Sizes.{pointer_count};
 ghost use Rattle.cms_tree.specs.Paths.{fresh_places};
-ghost use Rattle.cms_held.specs.Allotting.{KeepsTree};
-ghost use Rattle.cms_held.specs.Opening.{HeldTree};
+ghost use Rattle.cms_held.specs.Allotments.{KeepsTree};
+ghost use Rattle.cms_held.specs.HeldVolumes as volumes;
 ghost use Rattle.cms_held.specs.SharedBlocks.{fresh_of, released_of};
 ghost use Rattle.cms_held.specs.Systems.{whole_part};
 
-use crate::held::TreeBlocks;
+use crate::held::HeldTree;
 use cms_tree::{fresh_places, keep_leaves, leave_leaves, left_out, path, shape};
 use std::alloc::{AllocError, Global};
 use std::marker::Model;
 
 /// What is written of a tree: its data blocks and its pointer blocks at these places, from 0 and ascending.
 #[derive(Drop)]
-pub struct WrittenPlaces {
+pub struct TreePart {
     pub leaves: Vec<u32>,
     pub nodes: Vec<u32>,
 }
 
-impl Model for WrittenPlaces {
-    ghost use Rattle.cms_held.specs.Systems.{TreePart};
+impl Model for TreePart {
+    ghost use Rattle.cms_held.specs.Systems as systems;
 
-    ghost Value = { TreePart };
+    ghost Value = { systems.TreePart };
 
     ghost view = { λ p. record { leaves = p.leaves.items; nodes = p.nodes.items } };
 }
@@ -37,14 +37,14 @@ pub fn first_numbers(alloc: Global, count: u32) -> Result<Vec<u32>, AllocError>
     (0..count).collect(alloc)
 }
 
-impl WrittenPlaces {
+impl TreePart {
     /// All of a tree.
-    pub fn of_whole(alloc: Global, tree: &TreeBlocks) -> Result<WrittenPlaces, AllocError>
+    pub fn of_whole(alloc: Global, tree: &HeldTree) -> Result<TreePart, AllocError>
         requires few { length tree.now.leaves < 2 ^ 32 }
         requires few_nodes { length tree.now.pointers < 2 ^ 32 }
         ensures { IfOk result (λ p. p ≡ whole_part tree.now) }
     {
-        Ok(WrittenPlaces {
+        Ok(TreePart {
             leaves: first_numbers(alloc, tree.leaves().len() as u32)?,
             nodes: first_numbers(alloc, tree.pointers().len() as u32)?,
         })
@@ -58,7 +58,7 @@ impl WrittenPlaces {
         count: u32,
         fan: u32,
         written: Vec<u32>,
-    ) -> Result<WrittenPlaces, AllocError>
+    ) -> Result<TreePart, AllocError>
         requires some_before { 1 ≤ before }
         requires some { 1 ≤ count }
         requires wide { 2 ≤ fan }
@@ -68,7 +68,7 @@ impl WrittenPlaces {
     {
         let mut nodes = Vec::with_capacity(alloc, shape(count, fan).pointers as usize)?;
         fresh_places(before, count, fan, &written, &mut nodes);
-        Ok(WrittenPlaces {
+        Ok(TreePart {
             leaves: written,
             nodes,
         })
@@ -79,12 +79,12 @@ impl WrittenPlaces {
 /// numbers: the data blocks first, then the pointer blocks.
 pub fn shared_tree(
     alloc: Global,
-    old: &TreeBlocks,
+    old: &HeldTree,
     count: u32,
     fan: u32,
-    places: &WrittenPlaces,
+    places: &TreePart,
     numbers: &[u32],
-) -> Result<TreeBlocks, AllocError>
+) -> Result<HeldTree, AllocError>
     requires some_before { 1 ≤ length old.now.leaves }
     requires few { length old.now.leaves < 2 ^ 32 }
     requires some { 1 ≤ count }
@@ -114,13 +114,13 @@ pub fn shared_tree(
         fresh,
         &mut pointers,
     );
-    Ok(TreeBlocks { leaves, pointers })
+    Ok(HeldTree { leaves, pointers })
 }
 
 /// The blocks of a tree that one of `count` data blocks, of which these are written, doesn't keep: data blocks first.
 pub fn left_blocks(
     alloc: Global,
-    old: &TreeBlocks,
+    old: &HeldTree,
     count: u32,
     fan: u32,
     written: &[u32],
@@ -131,7 +131,7 @@ pub fn left_blocks(
     requires wide { 2 ≤ fan }
     requires olds { length old.now.pointers ≡ pointer_count fan (length old.now.leaves) }
     requires ascends { IsStrictlyIncreasing written.now }
-    ensures { IfOk result (λ v. (new : HeldTree) → length new.leaves ≡ count
+    ensures { IfOk result (λ v. (new : volumes.HeldTree) → length new.leaves ≡ count
         → length new.pointers ≡ pointer_count fan count
         → v.items ≡ released_of fan written.now old.now new) }
 {

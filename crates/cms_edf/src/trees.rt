@@ -10,8 +10,8 @@ ghost use Rattle.cms_tree.specs.Walks.{IsWithin, image_at};
 ghost use Rattle.cms_edf.specs.OpeningSteps.{OfImage, ReadsTree, AreBlocks};
 
 use crate::blocks::{ReadFault, append, read_block};
-use crate::held::TreeBlocks;
-use crate::open::Place;
+use crate::held::HeldTree;
+use crate::listing::Place;
 use cms_journal::BlockSize;
 use cms_model::OpenFault;
 use cms_tree::{TreeAt, TreeFault, Walked, walk};
@@ -64,10 +64,10 @@ pub fn tree_of<W: World>(alloc: Global, world: &mut W, at: &TreeAt) -> Result<Wa
 }
 
 /// The blocks of a tree that was read, but for their joint order.
-pub fn tree_held(walked: Walked) -> TreeBlocks
+pub fn tree_held(walked: Walked) -> HeldTree
     ensures { result ≡ record { leaves = walked.leaves.items; pointers = walked.pointers.items } }
 {
-    TreeBlocks {
+    HeldTree {
         leaves: walked.leaves,
         pointers: walked.pointers,
     }

@@ -8,7 +8,7 @@ ghost use Rattle.cms_model.specs.Volumes.{tree_blocks};
 ghost use Rattle.cms_model.specs.declared.fault.OpenFault.TheVariants.{Device, Memory};
 ghost use Rattle.cms_map.specs.Bits.{bits_in};
 ghost use Rattle.cms_tree.specs.Walks.{IsWithin};
-ghost use Rattle.cms_held.specs.Opening.{IsFaultOf};
+ghost use Rattle.cms_held.specs.HeldVolumes.{IsFaultOf};
 ghost use Rattle.cms_edf.specs.OpeningSteps.{OfImage, met_in, listed, trees_in, lost_in};
 ghost use Rattle.cms_edf.specs.EntryShapes.{HasShape};
 ghost use Rattle.cms_edf.specs.OpeningFiles.{HasTrees, HaveCounts};
@@ -16,8 +16,8 @@ ghost use Rattle.cms_fields.specs.Limits.{most_files};
 ghost use Rattle.cms_world.specs.Seen.{OnlyReads, seen};
 
 use crate::files::{all_blocks, read_files};
+use crate::listing::{Listing, Place, read_map};
 use crate::met::lost_of;
-use crate::open::{Listing, Place, read_map};
 use crate::trees::bytes_of;
 use cms_map::Map;
 use cms_model::OpenFault;

@@ -2,5 +2,5 @@ pub mod Places
 pub mod Moves
 pub mod Reversed
 pub mod Targets
-pub mod Holding
-pub mod Folding
+pub mod HeldEditors
+pub mod Folds

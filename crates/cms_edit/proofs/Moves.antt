@@ -4,7 +4,7 @@ use Rattle.std.specs.List.{insert}
 use Rattle.std.proofs.lemmas.Bool.{cases_lt}
 use Rattle.std.proofs.lemmas.List.{append_assoc, drop_all, drop_at, length-append, length-drop, length-reverse, length-set, length-take, length_push, reverse-append, reverse-reverse, set-append_left, set_at, take-append-drop, take-append-le, take_all, take_at, take_more}
 use Rattle.cms_text.specs.Texts.{Text}
-use Rattle.cms_edit.specs.Buffers.{Buffered, at, inserted, lines_from, lines_without, moved_down, moved_up, removed, replaced}
+use Rattle.cms_edit.specs.Buffers.{Buffer, at, inserted, lines_from, lines_without, moved_down, moved_up, removed, replaced}
 
 -- the last of one becomes the last of the other
 pub handed : {X : Type 0} (to from : List X) (x : X) → (to ++ x ∷ []) ++ reverse from ≡ to ++ reverse (from ++ x ∷ [])
@@ -18,11 +18,11 @@ pub turned : {X : Type 0} (to from to' from' : List X) → to' ++ reverse from' 
 turned to from to' from' same = sym (twice from' to') ∙ ap reverse same ∙ twice from to
 
 -- what a buffer of two lists holds
-abbrev pub meeting : List Text → List Text → Buffered
+abbrev pub meeting : List Text → List Text → Buffer
 meeting above below = record { lines = above ++ reverse below; current = length above }
 
 same_buffers : (xs ys : List Text) (i j : ℕ) → xs ≡ ys → i ≡ j
-    → ◌≡◌ {A = Buffered} (record { lines = xs; current = i }) (record { lines = ys; current = j })
+    → ◌≡◌ {A = Buffer} (record { lines = xs; current = i }) (record { lines = ys; current = j })
 same_buffers xs ys i j p q = λ k. record { lines = p k; current = q k }
 
 all_lines : (a b : List Text) → length (a ++ reverse b) ≡ length a + length b

@@ -18,7 +18,7 @@ use Rattle.cms_edit.specs.declared.editor.Editor.{Editor}
 use Rattle.cms_edit.specs.declared.editor.Phase.{Phase}
 use Rattle.cms_edit.specs.declared.editor.Phase.TheVariants.{Idle, Loading, Asking, LoopSaid, Said, Unfit, Saving, LoopSaving}
 use Rattle.cms_edit.specs.declared.target.Target.{Target}
-use Rattle.cms_edit.specs.Buffers.{Buffered, most_lines}
+use Rattle.cms_edit.specs.Buffers.{Buffer, most_lines}
 use Rattle.cms_edit.specs.Edits.{Edited, edit_told, not_found, unable}
 use Rattle.cms_edit.specs.Subcommands.{Subcommand, End, subcommand_of}
 
@@ -72,7 +72,7 @@ file_in (n ∷ size ∷ bytes) =
     Some (record { name = record { file = take size bytes; kind = drop size bytes }; letter = n })
 
 -- no lines
-abbrev pub no_lines : Buffered
+abbrev pub no_lines : Buffer
 no_lines = record { lines = []; current = 0 }
 
 -- no file, and nothing runs
@@ -124,7 +124,7 @@ abbrev pub puts : Editor → Target → Phase → Answered
 puts e t phase = wanting (Put t.name t.letter e.buffer.lines) phase e
 
 -- the editor with another buffer
-abbrev pub with_buffer : Editor → Buffered → Editor
+abbrev pub with_buffer : Editor → Buffer → Editor
 with_buffer e b = record e { buffer = b }
 
 -- ---- a line of EDIT
@@ -301,5 +301,5 @@ pub record Comes (before : Editor) (a : Answered) (after : Editor) (result : Res
   pub kept : OnErr result (after ≡ before)
 
 -- an edit comes to this buffer and this code
-abbrev pub Codes : Edited → Buffered → ℤ → Type 0
+abbrev pub Codes : Edited → Buffer → ℤ → Type 0
 Codes edited b code = (edited.buffer ≡ b) × (edited.code ≡ code)

@@ -8,7 +8,7 @@ use Rattle.cms_ext.specs.Exact.{exactly}
 use Rattle.cms_edit.specs.declared.editor.Editor.{Editor}
 use Rattle.cms_edit.specs.declared.editor.Phase.TheVariants.{Idle}
 use Rattle.cms_edit.specs.declared.target.Target.{Target}
-use Rattle.cms_edit.specs.Buffers.{Buffered}
+use Rattle.cms_edit.specs.Buffers.{Buffer}
 use Rattle.cms_edit.specs.Edits.{edit}
 use Rattle.cms_edit.specs.Editors.{held, step}
 
@@ -56,23 +56,23 @@ subcommands [] = []
 subcommands (x ∷ xs) = given_by x.told (reply_in xs) ++ subcommands xs
 
 -- the buffer behind subcommands
-abbrev pub folded : Buffered → List Given → Buffered
+abbrev pub folded : Buffer → List Given → Buffer
 folded b [] = b
 folded b (g ∷ gs) = folded (edit b g.line g.reply).buffer gs
 
 -- where the buffer is put it is exactly this one, and goes to this file
-abbrev pub Puts : Target → Buffered → Want → Type 0
+abbrev pub Puts : Target → Buffer → Want → Type 0
 Puts t b (Put name n records) = (name ≡ t.name) × (n ≡ t.letter) × (records ≡ b.lines)
 Puts t b _ = ⊤
 
 -- each put among turns is of the buffer as the subcommands up to it have left it
-abbrev pub PutsAre : Target → Buffered → List Exchange → Type 0
+abbrev pub PutsAre : Target → Buffer → List Exchange → Type 0
 PutsAre t b [] = ⊤
 PutsAre t b (x ∷ xs) =
     let now = folded b (given_by x.told (reply_in xs)) in Puts t now x.want × PutsAre t now xs
 
 -- a content is that of an editor with this file and buffer
-pub record Stands (t : Target) (b : Buffered) (after : Content) : Type 0 where
+pub record Stands (t : Target) (b : Buffer) (after : Content) : Type 0 where
   pub editor : Editor
   pub content : after ≡ held editor
   pub file : editor.file ≡ Some t

@@ -25,9 +25,9 @@ pub struct Buffer {
 
 impl Model for Buffer {
     ghost use Rattle.std.specs.Prelude.{◌++◌, length, reverse};
-    ghost use Rattle.cms_edit.specs.Buffers.{Buffered};
+    ghost use Rattle.cms_edit.specs.Buffers as buffers;
 
-    ghost Value = { Buffered };
+    ghost Value = { buffers.Buffer };
 
     ghost view = { λ b. record {
       lines = b.above.items ++ reverse b.below.items;

@@ -12,7 +12,7 @@ use Rattle.exec2_run.specs.Given.{behind_name, ends_name}
 use Rattle.exec2_run.specs.Steps.{begun}
 use Rattle.exec2_run.specs.Variables.{all_arguments, numbered, with_arguments}
 use Rattle.exec2_parse.specs.Words.{is_blank, is_empty, words_of}
-use Rattle.exec2_run.specs.State.{Procedure}
+use Rattle.exec2_run.specs.State.{Exec}
 use Rattle.cms_exec.specs.LawsExec.{AlwaysBegins}
 
 behind_short : (line : Text) → length (behind_name line) ≤ length line
@@ -34,7 +34,7 @@ few_words line =
     omega arith
 
 -- these may be set as arguments
-with_room : (s : Procedure) (values : List Text) → len s.variables.others + length values ≤ 1000 → (exec : Procedure) × (with_arguments s values ≡ Ok exec)
+with_room : (s : Exec) (values : List Text) → len s.variables.others + length values ≤ 1000 → (exec : Exec) × (with_arguments s values ≡ Ok exec)
 unfolding with_arguments
 with_room s values few =
     let room : nat_le (len s.variables.others + length values) 1000 ≡ true = le-leb (len s.variables.others + length values) 1000 few in

@@ -25,10 +25,10 @@ use Rattle.cms_line.specs.declared.token.Token.{Token}
 use Rattle.cms_operands.specs.Refusals.{code_of, message_of}
 use Rattle.cms_operands.specs.declared.refusal.Refusal.{Refusal}
 use Rattle.cms_records.specs.Stored.{records_in}
-use Rattle.cms_records.proofs.Reading.{records_are}
+use Rattle.cms_records.proofs.StoredRecords.{records_are}
 use Rattle.cms_edf.specs.OpeningSteps.{OfImage}
 use Rattle.cms_disk.specs.Disks.{Accessed, IsReadable, StandsIn, place_of}
-use Rattle.cms_disk.specs.Getting.{GetsIn}
+use Rattle.cms_disk.specs.Gets.{GetsIn}
 use Rattle.cms_disk.specs.declared.fault.DiskFault.{DiskFault}
 use Rattle.cms_disk.specs.declared.fault.DiskFault.TheVariants as failed
 use Rattle.cms_disk.specs.declared.unit.UnitInfo.{UnitInfo}
@@ -64,7 +64,7 @@ use Rattle.exec2_parse.specs.Procedures.{procedure_of}
 use Rattle.exec2_parse.specs.declared.procedure.ProcFault.{ProcFault}
 use Rattle.exec2_parse.specs.declared.procedure.ProcFault.TheVariants as refuses
 use Rattle.exec2_run.specs.Steps.{begun}
-use Rattle.exec2_run.specs.State.{Procedure}
+use Rattle.exec2_run.specs.State.{Exec}
 use Rattle.exec2_run.specs.declared.exec.FileName.{FileName}
 use Rattle.cms_exec.specs.Exec.{IsRefused, Starting, beginning, exec_command, exec_operand, exec_operands, line_from, no_procedure, not_run_code, on_procedure, read_there, reason_of, refused, start_named, started_of, starting}
 use Rattle.cms_exec.specs.Refused.{with_refused}
@@ -240,7 +240,7 @@ module _ (old : Spot) (called : Text) (f : FileName) (stored : FileData) (valid 
   stands : StandsFor stored (records_in stored)
   stands = subst (λ (records : List (List ℕ)). StandsFor stored records) (sym (records_are stored valid.records valid.stands)) valid.stands
 
-  pub has_begun : (lines : List Text) (exec : Procedure) → ((records : List (List ℕ)) → StandsFor stored records → procedure_of records ≡ Ok lines) → begun lines called f ≡ Ok exec
+  pub has_begun : (lines : List Text) (exec : Exec) → ((records : List (List ℕ)) → StandsFor stored records → procedure_of records ≡ Ok lines) → begun lines called f ≡ Ok exec
       → Acts old old begins_tree (Ok (Begun exec)) (started_of old.state)
   has_begun lines exec is begins =
       let all = is (records_in stored) stands in

@@ -25,7 +25,7 @@ use Rattle.exec2_parse.specs.declared.procedure.ProcFault.{ProcFault}
 use Rattle.exec2_parse.specs.declared.procedure.ProcFault.TheVariants.{NotExec2, LineTooLong, TooManyLines, Memory}
 use Rattle.exec2_run.specs.Faults.{number_of_fault}
 use Rattle.exec2_run.specs.Steps.{begun}
-use Rattle.exec2_run.specs.State.{Procedure}
+use Rattle.exec2_run.specs.State.{Exec}
 use Rattle.exec2_run.specs.declared.exec.FileName.{FileName}
 use Rattle.exec2_run.specs.declared.fault.Fault.{Fault}
 use Rattle.cms_exec.specs.Searches.{procedure_named}
@@ -36,7 +36,7 @@ use Rattle.cms_exec.specs.declared.start.Started.TheVariants as came
 
 -- the procedure has begun, before its first statement; or it was refused, and the command ended so
 pub data Starting : Type 0 where
-  HasBegun : Machine → Procedure → Starting
+  HasBegun : Machine → Exec → Starting
   IsRefused : Course → Starting
 
 -- a refusal ends the call
@@ -88,7 +88,7 @@ not_run s file reason = refusal s (M086 file (decimal_of reason)) (not_run_code 
 -- ---- the start
 
 -- the state before its first statement; called by a line it always begins, as a law says
-abbrev pub begins : Machine → Result Procedure Fault → Act Starting
+abbrev pub begins : Machine → Result Exec Fault → Act Starting
 begins s (Ok exec) = Done (HasBegun s exec)
 begins s (Err fault) = Done (IsRefused (Went s (pos (stopped_code + number_of_fault fault))))
 

@@ -9,7 +9,7 @@ use Rattle.cms_operands.specs.Operands.{given}
 use Rattle.cms_operands.specs.declared.mode.ReadMode.TheVariants.{Any}
 use Rattle.cms_search.specs.Machine.{Machine}
 use Rattle.cms_search.specs.Searches.{Listed, Shelves, found_at, item_at, look_up, shelves_in}
-use Rattle.cms_search.specs.Tables.{Accesses}
+use Rattle.cms_search.specs.Tables.{AccessTable}
 use Rattle.cms_search.specs.declared.fault.SearchFault.{SearchFault}
 use Rattle.cms_search.specs.declared.search.Found.{Found}
 use Rattle.cms_files.specs.Identifiers.{exec_kind}
@@ -47,7 +47,7 @@ abbrev pub procedure_named : Machine → List ℕ → Option FileName
 procedure_named s file = procedure_in (shelves_in s) file
 
 -- its file stands where it was found
-abbrev pub IsThere : Accesses → FoundProcedure → Type 0
+abbrev pub IsThere : AccessTable → FoundProcedure → Type 0
 IsThere t f = IsFoundAt t (found_at f.file.letter f.place) f.file.name
 
 -- ---- a procedure that a line's first word names

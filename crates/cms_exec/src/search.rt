@@ -11,7 +11,7 @@ use cms_files::{exec_kind, info_found};
 use cms_line::Token;
 use cms_names::{Name, Part};
 use cms_operands::{ReadMode, given};
-use cms_search::{Found, Table};
+use cms_search::{AccessTable, Found};
 use exec2_run::FileName;
 
 /// A procedure's file where a search found it.
@@ -24,7 +24,7 @@ pub struct FoundProcedure {
 }
 
 // A file that was found, with its letter and its mode number.
-fn file_found(table: &Table, name: Name, found: Found) -> Option<FoundProcedure>
+fn file_found(table: &AccessTable, name: Name, found: Found) -> Option<FoundProcedure>
     ensures file { option_map (λ f. f.file) result
         ≡ spec.file_found (shelves_of table.now) name found }
     ensures there { IsFoundAt table.now found name → IfSome result (spec.IsThere table.now) }
@@ -41,7 +41,7 @@ fn file_found(table: &Table, name: Name, found: Found) -> Option<FoundProcedure>
 }
 
 /// The procedure of a name, the first that is found over all disks; none exactly where none is found.
-pub fn find_procedure(table: &Table, file: Part) -> Option<FoundProcedure>
+pub fn find_procedure(table: &AccessTable, file: Part) -> Option<FoundProcedure>
     ensures procedure { (s : Machine) → Shows table.now s
         → option_map (λ f. f.file) result ≡ spec.procedure_named s file }
     ensures there { IfSome result (spec.IsThere table.now) }
@@ -70,7 +70,7 @@ fn first_name(words: &[Token]) -> Option<Part>
 }
 
 /// The procedure that a line's first word names; none exactly where that is no valid file name, or no such procedure is found.
-pub fn find_called(table: &Table, words: &[Token]) -> Option<FoundProcedure>
+pub fn find_called(table: &AccessTable, words: &[Token]) -> Option<FoundProcedure>
     ensures procedure { (s : Machine) → Shows table.now s
         → option_map (λ f. f.file) result ≡ spec.called_by s words.now }
     ensures there { IfSome result (spec.IsThere table.now) }

@@ -15,7 +15,7 @@ use Rattle.cms_text.specs.Texts.{ebcdic, is_keyword}
 use Rattle.cms_model.specs.Changes.{answer_of, change_file, changed, changed_files, drop_file, entries_made, file_named, is_full, last_first, limit, need, place_named, put_file, written_file}
 use Rattle.cms_model.specs.DirectoryParts.{blocks_with, directory_taken}
 use Rattle.cms_model.specs.Growth.{growth_taken}
-use Rattle.cms_model.specs.Sharing.{any_within, fresh_count, fresh_on, fresh_to, is_kept}
+use Rattle.cms_model.specs.SharedTrees.{any_within, fresh_count, fresh_on, fresh_to, is_kept}
 use Rattle.cms_model.specs.Lists.{holds, same}
 use Rattle.cms_model.specs.Minidisks.{File, Volume, same_name}
 use Rattle.cms_model.specs.Records.{longest}

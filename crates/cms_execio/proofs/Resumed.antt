@@ -6,8 +6,8 @@ use Rattle.std.proofs.lemmas.Option.{same_Some}
 use Rattle.cms_names.specs.declared.name.Name.{Name}
 use Rattle.cms_machine.specs.Acts.{Act, saying, typed_line}
 use Rattle.cms_machine.specs.Slots.{Slot}
-use Rattle.cms_edf.specs.Asking.{infos_in}
-use Rattle.cms_disk.specs.Cursors.{Reading}
+use Rattle.cms_edf.specs.FilesTold.{infos_in}
+use Rattle.cms_disk.specs.Cursors.{Cursor}
 use Rattle.cms_disk.specs.Disks.{place_of}
 use Rattle.cms_disk.specs.declared.fault.DiskFault.{DiskFault}
 use Rattle.cms_disk.specs.declared.fault.DiskFault.TheVariants as failed
@@ -20,7 +20,7 @@ use Rattle.cms_search.specs.DeviceSteps.{HasRead}
 use Rattle.cms_search.specs.Machine.{Course, Machine}
 use Rattle.cms_search.specs.Refusals.{unread_code, unread_message}
 use Rattle.cms_search.specs.Searches.{item_at}
-use Rattle.cms_search.specs.Tables.{Accesses, IsReadingOf, Seated, reading_on, with_reading}
+use Rattle.cms_search.specs.Tables.{AccessTable, IsReadingOf, Seated, reading_on, with_reading}
 use Rattle.cms_search.specs.declared.readings.KeptReading.{KeptReading}
 use Rattle.cms_search.specs.declared.state.Course as declared
 use Rattle.cms_search.specs.declared.state.Course.TheVariants as course
@@ -42,10 +42,10 @@ use Rattle.cms_execio.specs.declared.start.Start.{Start}
 use Rattle.cms_execio.proofs.Takings.{IsStart, ReadTo, TakenSoFar, front_left, lines_all, start_taken, taken_all, taken_starved, taken_unread, tree}
 
 -- the file is open as before where the disk keeps another reading
-pub opened_reading : (t t' : Accesses) (n : ℕ) (r : Option KeptReading) (name : Name) (file : OpenFile) → IsOpened t n name file → t' ≡ with_reading n r t → IsOpened t' n name file
+pub opened_reading : (t t' : AccessTable) (n : ℕ) (r : Option KeptReading) (name : Name) (file : OpenFile) → IsOpened t n name file → t' ≡ with_reading n r t → IsOpened t' n name file
 opened_reading t t' n r name file o is =
     let table : t' ≡ table_reading t n o.seat r = is ∙ with_reading_is t n o.seat r o.there in
-    subst (λ (x : Accesses). IsOpened x n name file) (sym table) (record {
+    subst (λ (x : AccessTable). IsOpened x n name file) (sym table) (record {
       seat = seat_as o.seat o.seat.disk r;
       there = item_here t.seats n (Some (seat_as o.seat o.seat.disk r)) (item_within t.seats n o.seat o.there);
       device = o.device;
@@ -56,25 +56,25 @@ opened_reading t t' n r name file o is =
     })
 
 -- and the same is told of it
-info_seated : (t : Accesses) (n : ℕ) (name : Name) (s : Seated) → item_at t.seats n ≡ Some s
+info_seated : (t : AccessTable) (n : ℕ) (name : Name) (s : Seated) → item_at t.seats n ≡ Some s
     → info_named t n name ≡ option_and_then (λ (k : ℕ). slice_get (infos_in s.disk.volume) k) (place_of name s.disk.volume)
 info_seated t n name s there =
     ap (λ (x : Option Seated). option_and_then (λ (y : Seated). option_and_then (λ (k : ℕ). slice_get (infos_in y.disk.volume) k) (place_of name y.disk.volume)) x) there
 
-pub told_reading : (t t' : Accesses) (n : ℕ) (r : Option KeptReading) (name : Name) (file : OpenFile) → IsOpened t n name file → t' ≡ with_reading n r t → info_named t' n name ≡ info_named t n name
+pub told_reading : (t t' : AccessTable) (n : ℕ) (r : Option KeptReading) (name : Name) (file : OpenFile) → IsOpened t n name file → t' ≡ with_reading n r t → info_named t' n name ≡ info_named t n name
 told_reading t t' n r name file o is =
     let table : t' ≡ table_reading t n o.seat r = is ∙ with_reading_is t n o.seat r o.there in
     let seat = seat_as o.seat o.seat.disk r in
-    ap (λ (x : Accesses). info_named x n name) table
+    ap (λ (x : AccessTable). info_named x n name) table
     ∙ (info_seated (table_reading t n o.seat r) n name seat (item_here t.seats n (Some seat) (item_within t.seats n o.seat o.there)) ∙ sym (info_seated t n name o.seat o.there))
 
-pub told_behind : (t t' : Accesses) (n : ℕ) (name : Name) (file : OpenFile) (count : ℕ) (drops : Bool) (c : Reading) → IsOpened t n name file → t' ≡ table_behind t n name count drops c
+pub told_behind : (t t' : AccessTable) (n : ℕ) (name : Name) (file : OpenFile) (count : ℕ) (drops : Bool) (c : Cursor) → IsOpened t n name file → t' ≡ table_behind t n name count drops c
     → info_named t' n name ≡ info_named t n name
-told_behind t t' n name file count true c o is = ap (λ (x : Accesses). info_named x n name) is
+told_behind t t' n name file count true c o is = ap (λ (x : AccessTable). info_named x n name) is
 told_behind t t' n name file count false c o is = told_reading t t' n (Some (reading_behind name count c)) name file o is
 
 -- a command that ends so behind a file that couldn't be read
-pub unread_behind : (t : Accesses) (n : ℕ) (name : Name) (count : ℕ) (why : DiskFault) (x : declared.Course) → (why ≡ failed.Device) ⊎ (why ≡ failed.Altered)
+pub unread_behind : (t : AccessTable) (n : ℕ) (name : Name) (count : ℕ) (why : DiskFault) (x : declared.Course) → (why ≡ failed.Device) ⊎ (why ≡ failed.Altered)
     → x ≡ course.Went (pos (unread_code why)) → GoesOnBehind t n name count x
 unread_behind t n name count why x (inl device) went = inl (went ∙ ap (λ (e : DiskFault). course.Went (pos (unread_code e))) device)
 unread_behind t n name count why x (inr altered) went = inr (inl (went ∙ ap (λ (e : DiskFault). course.Went (pos (unread_code e))) altered))
@@ -85,12 +85,12 @@ ok_each (Ok x) P all = all x
 ok_each (Err e) P all = tt
 
 -- a spot with this world and this table
-abbrev pub with_table : Spot → Seen → Accesses → Spot
+abbrev pub with_table : Spot → Seen → AccessTable → Spot
 with_table old w t = record { world = w; state = record old.state { table = t } }
 
 module _ (old : Spot) (words : List Token) (n : ℕ) (line : ReadLine) (file : OpenFile) (o : IsOpened old.state.table n line.range.input.name file) (front taken : ℕ)
     (front_is : front ≡ in_front old.state.places line.range file.vdev) (taken_is : taken ≡ taken_of line.range.count (file.count - front)) (some : 1 ≤ taken)
-    (usable : IsUsable old) (t : Accesses) (dropped : t ≡ with_reading n None old.state.table) (kept : Option Reading) (x : Start)
+    (usable : IsUsable old) (t : AccessTable) (dropped : t ≡ with_reading n None old.state.table) (kept : Option Cursor) (x : Start)
     (start : IsStart old.state.table n line.range.input.name file.cursor front kept x) where
   abbrev base : Spot
   base = with_table old old.world t
@@ -117,9 +117,9 @@ module _ (old : Spot) (words : List Token) (n : ℕ) (line : ReadLine) (file : O
       start_taken old n line.range.input.name file o (opened_open old n line.range.input.name file o usable) line front kept x [] start
       (front_left old words n line file o front taken front_is taken_is some) refl units h
 
-  module _ (mid : Seen) (c : Reading) (k : ℕ) (lines : List (List ℕ)) (so : ReadTo old.world mid file.cursor c k) (come : Begun → TakenSoFar line front old.world mid file.cursor c k lines) where
+  module _ (mid : Seen) (c : Cursor) (k : ℕ) (lines : List (List ℕ)) (so : ReadTo old.world mid file.cursor c k) (come : Begun → TakenSoFar line front old.world mid file.cursor c k lines) where
     -- the file couldn't be read any further
-    pub resumed_unread : (now' : Seen) (new : Spot) (d : Reading) (why : DiskFault) (r : Result declared.Course End) → k ≤ front + taken → (why ≡ failed.Device) ⊎ (why ≡ failed.Altered)
+    pub resumed_unread : (now' : Seen) (new : Spot) (d : Cursor) (why : DiskFault) (r : Result declared.Course End) → k ≤ front + taken → (why ≡ failed.Device) ⊎ (why ≡ failed.Altered)
         → Hands mid.told c d (Err why) → OnlyReads {T = Bool} mid now' failed.Device (Err why)
         → calls.Does now' new.world (saying (typed_line (message_text (unread_message why file.vdev)))) r said → IfOk r (λ y. y ≡ course.Went (pos (unread_code why)))
         → new.state ≡ base.state → Acts old new old_tree r (course_of new.state)
@@ -155,19 +155,19 @@ module _ (old : Spot) (words : List Token) (n : ℕ) (line : ReadLine) (file : O
       left_sound s at = subst (λ (z : Seated). IsReadingOf z.disk left) (same_Some opened.seat s (sym opened.there ∙ at)) own
 
       -- where it is kept
-      pub left_kept : (forgets : Bool) (t' : Accesses) → forgets ≡ false → t' ≡ table_behind t n line.range.input.name (front + taken) forgets c
+      pub left_kept : (forgets : Bool) (t' : AccessTable) → forgets ≡ false → t' ≡ table_behind t n line.range.input.name (front + taken) forgets c
           → KeepsBehind t' n line.range.input.name (front + taken)
       left_kept forgets t' none behind =
           let is : t' ≡ with_reading n (Some left) t = behind ∙ ap (λ (b : Bool). table_behind t n line.range.input.name (front + taken) b c) none in
           let table = is ∙ with_reading_is t n opened.seat (Some left) opened.there in
           let there = item_here t.seats n (Some (seat_as opened.seat opened.seat.disk (Some left))) (item_within t.seats n opened.seat opened.there) in
-          (c, ap (λ (z : Accesses). reading_on z n) table ∙ ap (λ (y : Option Seated). option_and_then (λ (z : Seated). z.reading) y) there)
+          (c, ap (λ (z : AccessTable). reading_on z n) table ∙ ap (λ (y : Option Seated). option_and_then (λ (z : Seated). z.reading) y) there)
 
       -- all that are wanted were handed out
       pub resumed_lines : (units : List Slot) → holds old units → lines ≡ lines_on (machine_of old.state units) line n
       resumed_lines units h = lines_all old words n line file o front taken front_is taken_is (with_table old mid t) c k lines (come (begun units h)) all units h
 
-      module _ (last : Bool) (last_is : last ≡ (front + taken == file.count)) (forgets : Bool) (t' : Accesses)
+      module _ (last : Bool) (last_is : last ≡ (front + taken == file.count)) (forgets : Bool) (t' : AccessTable)
           (behind : t' ≡ table_behind t n line.range.input.name (front + taken) forgets c) where
         abbrev next : Machine → Act Course
         next s = stack_read s line n file.vdev last front taken lines
@@ -178,21 +178,21 @@ module _ (old : Spot) (words : List Token) (n : ℕ) (line : ReadLine) (file : O
         abbrev then' : Spot
         then' = with_table old mid t'
 
-        abbrev Leaves : Accesses → Type 0
+        abbrev Leaves : AccessTable → Type 0
         Leaves z = Comes at_mid (with_table old mid z) (λ units. next (machine_of at_mid.state units)) (λ units. next (machine_of (with_table old mid z).state units))
 
         leaves : (b : Bool) → t' ≡ table_behind t n line.range.input.name (front + taken) b c → TakenSoFar line front old.world mid file.cursor c k lines → Leaves t'
-        leaves true is so_far = subst (λ (z : Accesses). Leaves z) (sym is) (comes_none at_mid (λ units. next (machine_of at_mid.state units)))
+        leaves true is so_far = subst (λ (z : AccessTable). Leaves z) (sym is) (comes_none at_mid (λ units. next (machine_of at_mid.state units)))
         leaves false is so_far =
             comes_reading at_mid then' n opened.seat (Some left) next (record { there = opened.there; table = is; state = refl; world = refl }) own
             (λ units m. left_behind at_mid n opened.seat line.range.input.name file.cursor opened.there opened.opens opened.starts.first.unit old.world c (front + taken) so_far.handed
             (so_far.long ∙ all) so.read.told units m)
 
         usable_left : (b : Bool) → t' ≡ table_behind t n line.range.input.name (front + taken) b c → Usable mid.told t → Usable mid.told t'
-        usable_left true is u = subst (λ (z : Accesses). Usable mid.told z) (sym is) u
+        usable_left true is u = subst (λ (z : AccessTable). Usable mid.told z) (sym is) u
         usable_left false is u =
             let table : t' ≡ table_reading t n opened.seat (Some left) = is ∙ with_reading_is t n opened.seat (Some left) opened.there in
-            λ j told. subst (λ (z : Accesses). IsUsableTable j z) (sym table) (usable_reading j t n opened.seat (Some left) opened.there (u j told))
+            λ j told. subst (λ (z : AccessTable). IsUsableTable j z) (sym table) (usable_reading j t n opened.seat (Some left) opened.there (u j told))
 
         -- so the command goes on with the lines
         pub resumed_all : Comes old then' old_tree (λ units. next (machine_of then'.state units))

@@ -18,7 +18,7 @@ use Rattle.cms_machine.specs.Runs.{Ran}
 use Rattle.cms_machine.specs.Slots.{Slot, Settled}
 use Rattle.cms_machine.specs.Steps.{Outcome}
 use Rattle.cms_machine.proofs.Join.{ran_none}
-use Rattle.cms_disk.specs.Cursors.{HasLeft, Reading, SameFile, text_of}
+use Rattle.cms_disk.specs.Cursors.{HasLeft, Cursor, SameFile, text_of}
 use Rattle.cms_edf.specs.OpeningSteps.{OfImage}
 use Rattle.cms_disk.specs.declared.fault.DiskFault.{DiskFault}
 use Rattle.cms_disk.specs.declared.fault.DiskFault.TheVariants as failed
@@ -31,7 +31,7 @@ use Rattle.cms_search.specs.DeviceSteps.{HasRead, Stepped, handed, reading, sile
 use Rattle.cms_search.specs.Machine.{Course, Machine, Places, Went}
 use Rattle.cms_search.specs.Refusals.{device_fault, unread_code, unread_message}
 use Rattle.cms_search.specs.Searches.{item_at}
-use Rattle.cms_search.specs.Tables.{Accesses, IsReadingOf, Seated, reading_on}
+use Rattle.cms_search.specs.Tables.{AccessTable, IsReadingOf, Seated, reading_on}
 use Rattle.cms_search.specs.Texts.{device_text}
 use Rattle.cms_search.specs.Units.{vdev_of}
 use Rattle.cms_search.specs.declared.state.Course as declared
@@ -78,17 +78,17 @@ line_added strips front records text = elim (cases_Bool (nat_lt (length records)
 ]
 
 -- so many records were handed out or passed over, and units were read alone
-pub record ReadTo (before now : Seen) (first c : Reading) (n : ℕ) : Type 0 where
+pub record ReadTo (before now : Seen) (first c : Cursor) (n : ℕ) : Type 0 where
   pub left : n + c.left ≡ first.left
   pub file : SameFile first c
   pub opened : IsOpen now.told c
   pub read : HasRead before now
 
-pub read_start : (s : Seen) (first c : Reading) (n : ℕ) → n + c.left ≡ first.left → SameFile first c → IsOpen s.told first → ReadTo s s first c n
+pub read_start : (s : Seen) (first c : Cursor) (n : ℕ) → n + c.left ≡ first.left → SameFile first c → IsOpen s.told first → ReadTo s s first c n
 read_start s first c n left file has = record { left = left; file = file; opened = open_same s.told first c file has; read = reads_none s }
 
 -- with a further one
-pub read_more : (before mid now' : Seen) (first c d : Reading) (n : ℕ) → ReadTo before mid first c n → SameFile c d → c.left ≡ d.left + 1 → HasRead mid now' → ReadTo before now' first d (n + 1)
+pub read_more : (before mid now' : Seen) (first c d : Cursor) (n : ℕ) → ReadTo before mid first c n → SameFile c d → c.left ≡ d.left + 1 → HasRead mid now' → ReadTo before now' first d (n + 1)
 read_more before mid now' first c d n so same left read =
     let so_left = so.left in
     record {
@@ -99,12 +99,12 @@ read_more before mid now' first c d n so same left read =
     }
 
 -- they were handed out, and the lines of those that are stacked are kept
-pub record TakenSoFar (line : ReadLine) (front : ℕ) (before now : Seen) (first c : Reading) (n : ℕ) (lines : List (List ℕ)) : Type 0 where
+pub record TakenSoFar (line : ReadLine) (front : ℕ) (before now : Seen) (first c : Cursor) (n : ℕ) (lines : List (List ℕ)) : Type 0 where
   pub handed : Handed (silent {R = Course}) before now first c
   pub long : length handed.front ≡ n
   pub lines_are : lines ≡ map (stacked_line line.style.strips) (drop front handed.front)
 
-taken_none : (line : ReadLine) (front : ℕ) (s : Seen) (c : Reading) (lines : List (List ℕ)) → IsOpen s.told c → lines ≡ [] → TakenSoFar line front s s c c 0 lines
+taken_none : (line : ReadLine) (front : ℕ) (s : Seen) (c : Cursor) (lines : List (List ℕ)) → IsOpen s.told c → lines ≡ [] → TakenSoFar line front s s c c 0 lines
 unfolding handed_none
 taken_none line front s c lines has none = record {
   handed = handed_none silent silent_one s c silent_each has;
@@ -113,7 +113,7 @@ taken_none line front s c lines has none = record {
 }
 
 -- none was handed out yet, and some were passed over
-taken_past : (line : ReadLine) (front n : ℕ) (s : Seen) (first c : Reading) (lines : List (List ℕ)) → IsOpen s.told first → IsPast n first c → n ≤ front → lines ≡ []
+taken_past : (line : ReadLine) (front n : ℕ) (s : Seen) (first c : Cursor) (lines : List (List ℕ)) → IsOpen s.told first → IsPast n first c → n ≤ front → lines ≡ []
     → TakenSoFar line front s s first c n lines
 taken_past line front n s first c lines has past low none = begun past.some
   where
@@ -133,7 +133,7 @@ taken_past line front n s first c lines has past low none = begun past.some
         }
 
 -- or they were handed out by earlier commands
-taken_behind : (line : ReadLine) (front n : ℕ) (s : Seen) (first c : Reading) (lines : List (List ℕ)) → Behind s.told first c n → SameFile first c → IsOpen s.told first → n ≤ front
+taken_behind : (line : ReadLine) (front n : ℕ) (s : Seen) (first c : Cursor) (lines : List (List ℕ)) → Behind s.told first c n → SameFile first c → IsOpen s.told first → n ≤ front
     → lines ≡ [] → TakenSoFar line front s s first c n lines
 taken_behind line front n s first c lines behind same has low none =
     let h = handed_behind s first c n behind same has in
@@ -145,7 +145,7 @@ taken_behind line front n s first c lines behind same has low none =
     }
 
 -- a further record was handed out
-pub taken_more : (line : ReadLine) (front : ℕ) (before mid now' : Seen) (first c d : Reading) (n : ℕ) (lines lines' : List (List ℕ)) (text : List ℕ)
+pub taken_more : (line : ReadLine) (front : ℕ) (before mid now' : Seen) (first c d : Cursor) (n : ℕ) (lines lines' : List (List ℕ)) (text : List ℕ)
     → TakenSoFar line front before mid first c n lines → Hands mid.told c d (Ok true) → SameFile c d → HasRead mid now' → text ≡ text_of d
     → lines' ≡ lines ++ line_of_nth line.style.strips front n text → TakenSoFar line front before now' first d (n + 1) lines'
 unfolding handed_more
@@ -166,7 +166,7 @@ taken_more line front before mid now' first c d n lines lines' text so hands sam
 -- ---- where it starts
 
 -- so much is said of where the reading of a file starts, by the cursor that was kept
-pub record IsStart (t : Accesses) (n : ℕ) (name : Name) (first : Reading) (front : ℕ) (kept : Option Reading) (x : Start) : Type 0 where
+pub record IsStart (t : AccessTable) (n : ℕ) (name : Name) (first : Cursor) (front : ℕ) (kept : Option Cursor) (x : Start) : Type 0 where
   pub there : IfSome kept (λ c. reading_on t n ≡ Some (reading_behind name front c))
   pub sound : IfSome kept (λ c. ForSome (item_at t.seats n) (λ s. IsReadingOf s.disk (reading_behind name front c)))
   pub goes : IfSome kept (λ c. x ≡ record { cursor = c; behind = front })
@@ -175,10 +175,10 @@ pub record IsStart (t : Accesses) (n : ℕ) (name : Name) (first : Reading) (fro
 
 module _ (old : Spot) (n : ℕ) (name : Name) (file : OpenFile) (o : IsOpened old.state.table n name file) (has : IsOpen old.world.told file.cursor) where
   -- so many records are behind it
-  pub start_read : (front : ℕ) (kept : Option Reading) (x : Start) → IsStart old.state.table n name file.cursor front kept x → ReadTo old.world old.world file.cursor x.cursor x.behind
+  pub start_read : (front : ℕ) (kept : Option Cursor) (x : Start) → IsStart old.state.table n name file.cursor front kept x → ReadTo old.world old.world file.cursor x.cursor x.behind
   start_read front kept x is = cases kept is.sound is.goes is.past
     where
-      cases : (k : Option Reading) → IfSome k (λ c. ForSome (item_at old.state.table.seats n) (λ s. IsReadingOf s.disk (reading_behind name front c)))
+      cases : (k : Option Cursor) → IfSome k (λ c. ForSome (item_at old.state.table.seats n) (λ s. IsReadingOf s.disk (reading_behind name front c)))
           → IfSome k (λ c. x ≡ record { cursor = c; behind = front }) → (k ≡ None → IsPast x.behind file.cursor x.cursor) → ReadTo old.world old.world file.cursor x.cursor x.behind
       cases None sound goes past = let p = past refl in read_start old.world file.cursor x.cursor x.behind p.left p.file has
       cases (Some c) sound goes past =
@@ -187,11 +187,11 @@ module _ (old : Spot) (n : ℕ) (name : Name) (file : OpenFile) (o : IsOpened ol
           rw goes (read_start old.world file.cursor c front same.1 same.0 has)
 
   -- and where the units are held it is as if they had been handed out
-  pub start_taken : (line : ReadLine) (front : ℕ) (kept : Option Reading) (x : Start) (lines : List (List ℕ)) → IsStart old.state.table n name file.cursor front kept x
+  pub start_taken : (line : ReadLine) (front : ℕ) (kept : Option Cursor) (x : Start) (lines : List (List ℕ)) → IsStart old.state.table n name file.cursor front kept x
       → front ≤ file.cursor.left → lines ≡ [] → (units : List Slot) → holds old units → TakenSoFar line front old.world old.world file.cursor x.cursor x.behind lines
   start_taken line front kept x lines is few none units h = cases kept is.there is.sound is.goes is.past
     where
-      cases : (k : Option Reading) → IfSome k (λ c. reading_on old.state.table n ≡ Some (reading_behind name front c))
+      cases : (k : Option Cursor) → IfSome k (λ c. reading_on old.state.table n ≡ Some (reading_behind name front c))
           → IfSome k (λ c. ForSome (item_at old.state.table.seats n) (λ s. IsReadingOf s.disk (reading_behind name front c)))
           → IfSome k (λ c. x ≡ record { cursor = c; behind = front }) → (k ≡ None → IsPast x.behind file.cursor x.cursor)
           → TakenSoFar line front old.world old.world file.cursor x.cursor x.behind lines
@@ -299,7 +299,7 @@ module _ (old : Spot) (words : List Token) (n : ℕ) (line : ReadLine) (file : O
       on_file units m f.0 k.met.slot f.1 (left_long image file.cursor f.0.records f.2 ∙ sym o.count)
       ∙ (ap (λ (k : ℕ). read_taken s line n x file.vdev front k) none ∙ ap (λ (k : ℕ). stack_read s line n file.vdev false front k []) (sym none)))
 
-  among : (mid : Spot) (c : Reading) (k : ℕ) (lines : List (List ℕ)) (so : TakenSoFar line front old.world mid.world file.cursor c k lines) → k ≤ front + taken
+  among : (mid : Spot) (c : Cursor) (k : ℕ) (lines : List (List ℕ)) (so : TakenSoFar line front old.world mid.world file.cursor c k lines) → k ≤ front + taken
       → AreAmong wanted so.handed.front
   among mid c k lines so low f more is =
       let long : length f.records ≡ length so.handed.front + length more = ap length is ∙ length-append so.handed.front more in
@@ -307,7 +307,7 @@ module _ (old : Spot) (words : List Token) (n : ℕ) (line : ReadLine) (file : O
       omega arith
 
   -- a further record is there
-  pub taken_left : 1 ≤ taken → (mid : Spot) (c : Reading) (k : ℕ) → ReadTo old.world mid.world file.cursor c k → k < front + taken → 1 ≤ c.left
+  pub taken_left : 1 ≤ taken → (mid : Spot) (c : Cursor) (k : ℕ) → ReadTo old.world mid.world file.cursor c k → k < front + taken → 1 ≤ c.left
   taken_left some mid c k so less =
       let low = few in
       let left = so.left in
@@ -315,7 +315,7 @@ module _ (old : Spot) (words : List Token) (n : ℕ) (line : ReadLine) (file : O
       omega arith
 
   -- all that are wanted were handed out
-  pub taken_all : (t : ℕ) → taken ≡ suc t → (mid : Spot) (c : Reading) (k : ℕ) (lines : List (List ℕ)) → TakenSoFar line front old.world mid.world file.cursor c k lines → k ≡ front + taken
+  pub taken_all : (t : ℕ) → taken ≡ suc t → (mid : Spot) (c : Cursor) (k : ℕ) (lines : List (List ℕ)) → TakenSoFar line front old.world mid.world file.cursor c k lines → k ≡ front + taken
       → mid.state ≡ old.state → Comes old mid tree (behind lines)
   taken_all t some mid c k lines so all same =
       let so_long : length so.handed.front ≡ front + taken = so.long ∙ all in
@@ -332,7 +332,7 @@ module _ (old : Spot) (words : List Token) (n : ℕ) (line : ReadLine) (file : O
       (λ units f. refl)
 
   -- the file couldn't be read any further, which is typed
-  pub taken_unread : (t : ℕ) → taken ≡ suc t → (mid read' new : Spot) (c d : Reading) (k : ℕ) (lines : List (List ℕ)) (why : DiskFault) (r : Result declared.Course End)
+  pub taken_unread : (t : ℕ) → taken ≡ suc t → (mid read' new : Spot) (c d : Cursor) (k : ℕ) (lines : List (List ℕ)) (why : DiskFault) (r : Result declared.Course End)
       → TakenSoFar line front old.world mid.world file.cursor c k lines → k ≤ front + taken → (why ≡ failed.Device) ⊎ (why ≡ failed.Altered) → Hands mid.world.told c d (Err why)
       → OnlyReads {T = Bool} mid.world read'.world failed.Device (Err why) → read'.state ≡ old.state
       → calls.Does read'.world new.world (saying (typed_line (message_text (unread_message why file.vdev)))) r said → IfOk r (λ x. x ≡ course.Went (pos (unread_code why)))
@@ -343,7 +343,7 @@ module _ (old : Spot) (words : List Token) (n : ℕ) (line : ReadLine) (file : O
       (λ units f j. ap (λ (s : State). refusal_tree s (M105 (device_text file.vdev)) (pos 100) units) (sym same)) does went
 
   -- there was no memory to keep a line
-  pub taken_starved : (mid new : Spot) (c : Reading) (k : ℕ) → ReadTo old.world mid.world file.cursor c k
+  pub taken_starved : (mid new : Spot) (c : Cursor) (k : ℕ) → ReadTo old.world mid.world file.cursor c k
       → HasRead mid.world new.world → new.state.table ≡ old.state.table → Acts {T = declared.Course} old new tree (Err Memory) (course_of new.state)
   taken_starved mid new c k so read same =
       let all = reads_then old.world mid.world new.world so.read read in
@@ -386,7 +386,7 @@ module _ (old : Spot) (words : List Token) (n : ℕ) (line : ReadLine) (file : O
       sym (l.2 ∙ ap (λ (t : ℕ). lines_taken line.style.strips front t l.0) none)
 
   -- all that are wanted were handed out
-  pub lines_all : (mid : Spot) (c : Reading) (k : ℕ) (lines : List (List ℕ)) → TakenSoFar line front old.world mid.world file.cursor c k lines → k ≡ front + taken
+  pub lines_all : (mid : Spot) (c : Cursor) (k : ℕ) (lines : List (List ℕ)) → TakenSoFar line front old.world mid.world file.cursor c k lines → k ≡ front + taken
       → (units : List Slot) → holds old units → lines ≡ lines_on (machine_of old.state units) line n
   lines_all mid c k lines so all units h =
       let l = lines_here units h in

@@ -8,8 +8,8 @@ use Rattle.cms_line.specs.declared.token.Token.{Token}
 use Rattle.cms_operands.specs.Choices.{chosen_of, flag}
 use Rattle.cms_operands.specs.Operands.{ended, given, largest, needed, number, number_or_all, operands_of, or_refused}
 use Rattle.cms_operands.specs.Optional.{writing_mode_or_a}
-use Rattle.cms_operands.specs.declared.choosing.ChosenOption.{ChosenOption}
-use Rattle.cms_operands.specs.declared.choosing.OptionForm.{OptionForm}
+use Rattle.cms_operands.specs.declared.options.ChosenOption.{ChosenOption}
+use Rattle.cms_operands.specs.declared.options.OptionForm.{OptionForm}
 use Rattle.cms_operands.specs.declared.refusal.Refusal.{Refusal}
 use Rattle.cms_operands.specs.declared.refusal.Refusal.TheVariants.{BadOperand}
 use Rattle.cms_files.specs.Identifiers.{file_input, full_name}

@@ -9,7 +9,7 @@ ghost use Rattle.cms_execio.specs.Starts.{IsPast, reading_behind, table_behind};
 
 use cms_disk::Cursor;
 use cms_names::{Format, Name};
-use cms_search::{KeptReading, Table};
+use cms_search::{AccessTable, KeptReading};
 
 /// A file that is read from some record on.
 #[derive(Drop)]
@@ -65,7 +65,7 @@ pub fn start_at(kept: Option<Cursor>, opened: Cursor, format: Format, front: u32
 /// The disk of an accessed letter keeps the reading of the file of a name, which stands behind so
 /// many records; or the cursor is dropped.
 pub fn keep_behind(
-    table: &mut Table,
+    table: &mut AccessTable,
     letter: u8,
     name: &Name,
     count: u32,

@@ -6,7 +6,7 @@ use Rattle.std.specs.declared.alloc.AllocError.{AllocError}
 use Rattle.std.proofs.lemmas.Bool.{eq-eqb}
 use Rattle.std.proofs.lemmas.Cmp.{int_eq_equiv}
 use Rattle.std.proofs.lemmas.Slice.Eq.{bytes_eq-Decides}
-use Rattle.cms_model.proofs.Changing.{name_self}
+use Rattle.cms_model.proofs.ListChanges.{name_self}
 use Rattle.cms_machine.specs.Objects as machine
 use Rattle.cms_machine.specs.Objects.{Content, Reply, Want, Say, Ask, Get, Put, Ended}
 use Rattle.cms_ext.specs.Exact.{Move, exactly, same_lines, same_want}

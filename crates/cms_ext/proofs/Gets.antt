@@ -21,10 +21,10 @@ use Rattle.cms_line.specs.Messages.{message_text}
 use Rattle.cms_line.specs.declared.message.Message.TheVariants.{M105}
 use Rattle.cms_operands.specs.declared.mode.ReadMode.TheVariants.{Letter}
 use Rattle.cms_records.specs.Stored.{records_in}
-use Rattle.cms_records.proofs.Reading.{records_are}
+use Rattle.cms_records.proofs.StoredRecords.{records_are}
 use Rattle.cms_edf.specs.OpeningSteps.{OfImage}
 use Rattle.cms_disk.specs.Disks.{Accessed, IsReadable, StandsIn, place_of}
-use Rattle.cms_disk.specs.Getting.{GetsIn}
+use Rattle.cms_disk.specs.Gets.{GetsIn}
 use Rattle.cms_disk.specs.declared.fault.DiskFault.{DiskFault}
 use Rattle.cms_disk.specs.declared.fault.DiskFault.TheVariants as failed
 use Rattle.cms_disk.specs.declared.unit.UnitInfo.{UnitInfo}

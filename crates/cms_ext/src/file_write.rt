@@ -18,7 +18,7 @@ use cms_disk::FileData;
 use cms_fields::Stamp;
 use cms_files::{Gathered, Updated, write_file};
 use cms_names::{Format, Name};
-use cms_search::{End, FileWrite, State, Table};
+use cms_search::{AccessTable, End, FileWrite, State};
 use cms_world::World;
 use std::alloc::{AllocError, Global};
 
@@ -40,7 +40,7 @@ const NEW: Form = Form {
 };
 
 // The form of the file of a name on the disk of a letter: that of the one that is there, else that of a new one.
-fn form_of(table: &Table, letter: u8, name: &Name) -> Form
+fn form_of(table: &AccessTable, letter: u8, name: &Name) -> Form
     ensures form { result ≡ form_told (info_named table.now letter name.now) }
     ensures number { result.number ≤ 6 }
 {

@@ -10,7 +10,7 @@ use Rattle.cms_fields.specs.Labels.{label_of, label_fields, with_label, has_iden
 use Rattle.cms_fields.specs.declared.label.Label.{Label}
 use Rattle.cms_fields.specs.declared.label.LabelFault.{LabelFault}
 use Rattle.cms_fields.specs.declared.label.LabelFault.TheVariants.{Id, BlockSize, Origin, Count, EntrySize}
-use Rattle.cms_text.proofs.Overwriting.{word_at, word_before, word_behind, field_at, field_before, length_over}
+use Rattle.cms_text.proofs.Overwritten.{word_at, word_before, word_behind, field_at, field_before, length_over}
 
 -- what a label's type says of its fields
 pub record IsLabel (l : Label) : Type 0 where

@@ -8,7 +8,7 @@ use Rattle.cms_text.specs.Numbers.{decimal_of, written, magnitude_of}
 use Rattle.cms_text.specs.Texts.{ebcdic}
 use Rattle.cms_model.specs.Changes.{answer_of, change_file, changed, changed_files, drop_file, entries_made, file_named, is_full, last_first, limit, need, place_named, written_file}
 use Rattle.cms_model.specs.DirectoryParts.{blocks_with, directory_taken}
-use Rattle.cms_model.specs.Sharing.{any_within, fresh_count, fresh_on, fresh_to, is_kept}
+use Rattle.cms_model.specs.SharedTrees.{any_within, fresh_count, fresh_on, fresh_to, is_kept}
 use Rattle.cms_model.specs.Lists.{same, holds}
 use Rattle.cms_model.specs.Minidisks.{File, same_name}
 use Rattle.cms_model.specs.Sizes.{directory_more, file_size, free_count, map_size, stored_size, tree_size, used_count, levels, levels_from, pointer_count, pointers_to}

@@ -6,17 +6,17 @@ use Rattle.cms_fields.specs.Steps.{◌>>=◌, ◌>>◌}
 use Rattle.cms_names.specs.declared.name.Name.{Name}
 use Rattle.cms_names.specs.declared.output.OutId.{OutId}
 use Rattle.cms_model.specs.Minidisks.{same_name}
-use Rattle.cms_model.proofs.Changing.{names_told}
+use Rattle.cms_model.proofs.ListChanges.{names_told}
 use Rattle.cms_disk.specs.Disks.{Accessed, place_of}
 use Rattle.cms_line.specs.declared.token.Token.{Token}
 use Rattle.cms_operands.specs.Choices.{chosen_of}
 use Rattle.cms_operands.specs.Operands.{ended, needed, operands_of, output_mode, writing_mode}
-use Rattle.cms_operands.specs.declared.choosing.ChosenOption.{ChosenOption}
+use Rattle.cms_operands.specs.declared.options.ChosenOption.{ChosenOption}
 use Rattle.cms_operands.specs.declared.operand.WriteMode.{WriteMode}
 use Rattle.cms_operands.specs.declared.refusal.Refusal.{Refusal}
 use Rattle.cms_operands.specs.declared.refusal.Refusal.TheVariants.{BadMode}
 use Rattle.cms_search.specs.Searches.{Listed, Shelf, item_at}
-use Rattle.cms_search.specs.Tables.{Accesses, Seated, shelves_of}
+use Rattle.cms_search.specs.Tables.{AccessTable, Seated, shelves_of}
 use Rattle.cms_search.proofs.Shown.{position_named, shelf_at, shelf_none}
 use Rattle.cms_files.specs.Identifiers.{name_choice, output_name}
 use Rattle.cms_files.specs.declared.identifier.NameChoice.{NameChoice}
@@ -95,7 +95,7 @@ has_is false None has = refl
 has_is false (Some k) has = has.1 refl
 
 -- the names are the same
-pub none_other : (t : Accesses) (n : ℕ) (from to : Name) → same_name from to ≡ true → AreOthers t n from to false
+pub none_other : (t : AccessTable) (n : ℕ) (from to : Name) → same_name from to ≡ true → AreOthers t n from to false
 none_other t n from to same = cases (item_at (shelves_of t) n)
   where
     cases : (x : Option Shelf) → IfSome x (λ shelf. false ≡ is_others from to shelf.files)
@@ -103,7 +103,7 @@ none_other t n from to same = cases (item_at (shelves_of t) n)
     cases (Some shelf) = rw same refl
 
 -- or the disk has the new one, or not
-pub others_on : (t : Accesses) (n : ℕ) (from to : Name) (d : Accessed) (b : Bool) → same_name from to ≡ false → Some d ≡ option_map (λ (s : Seated). s.disk) (item_at t.seats n)
+pub others_on : (t : AccessTable) (n : ℕ) (from to : Name) (d : Accessed) (b : Bool) → same_name from to ≡ false → Some d ≡ option_map (λ (s : Seated). s.disk) (item_at t.seats n)
     → (IsTrue b ↔ IsSome (place_of to d.volume)) → AreOthers t n from to b
 others_on t n from to d b other there has =
     let s = seat_with (item_at t.seats n) d there in
@@ -113,7 +113,7 @@ others_on t n from to d b other there has =
     rw (shelf, other, place, same) (has_is b (place_of to d.volume) has)
 
 -- no disk has the letter
-pub no_others : (t : Accesses) (n : ℕ) (from to : Name) → None ≡ option_map (λ (s : Seated). s.disk) (item_at t.seats n) → AreOthers t n from to false
+pub no_others : (t : AccessTable) (n : ℕ) (from to : Name) → None ≡ option_map (λ (s : Seated). s.disk) (item_at t.seats n) → AreOthers t n from to false
 no_others t n from to none = cases (item_at t.seats n) refl
   where
     cases : (x : Option Seated) → item_at t.seats n ≡ x → AreOthers t n from to false
@@ -121,7 +121,7 @@ no_others t n from to none = cases (item_at t.seats n) refl
     cases (Some s) at = absurd (let e : None ≡ Some s.disk = none ∙ ap (λ (x : Option Seated). option_map (λ (y : Seated). y.disk) x) at in cc e)
 
 -- where the new name is no other file's the file may have it
-pub may_have : (t : Accesses) (n : ℕ) (from to : Name) (b : Bool) → AreOthers t n from to b → b ≡ false → (s : Seated) → item_at t.seats n ≡ Some s
+pub may_have : (t : AccessTable) (n : ℕ) (from to : Name) (b : Bool) → AreOthers t n from to b → b ≡ false → (s : Seated) → item_at t.seats n ≡ Some s
     → (place_of to s.disk.volume ≡ None) ⊎ (to ≡ from)
 may_have t n from to b others free s at = cases (same_name from to) (place_of to s.disk.volume) refl refl told
   where

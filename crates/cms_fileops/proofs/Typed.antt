@@ -12,7 +12,7 @@ use Rattle.cms_machine.specs.Runs.{Ran, Broke}
 use Rattle.cms_machine.specs.Slots.{Slot}
 use Rattle.cms_machine.specs.Steps.{Outcome}
 use Rattle.cms_machine.proofs.Join.{ran_bind, broke_bind}
-use Rattle.cms_disk.specs.Cursors.{Reading, SameFile, text_of}
+use Rattle.cms_disk.specs.Cursors.{Cursor, SameFile, text_of}
 use Rattle.cms_disk.specs.declared.fault.DiskFault.{DiskFault}
 use Rattle.cms_disk.specs.declared.fault.DiskFault.TheVariants as failed
 use Rattle.cms_line.specs.Messages.{message_text}
@@ -90,12 +90,12 @@ few_wanted range count = cases range.last
 -- ---- how far it has come
 
 -- so many records were handed out, and those typed that are to be
-pub record TypedSoFar (line : TypeLine) (before now : Seen) (first c : Reading) (n : ℕ) : Type 0 where
+pub record TypedSoFar (line : TypeLine) (before now : Seen) (first c : Cursor) (n : ℕ) : Type 0 where
   pub handed : Handed (typing_on line) before now first c
   pub count : n ≡ length handed.front
   pub left : n + c.left ≡ first.left
 
-pub typed_none : (line : TypeLine) (s : Seen) (c : Reading) → IsOpen s.told c → TypedSoFar line s s c c 0
+pub typed_none : (line : TypeLine) (s : Seen) (c : Cursor) → IsOpen s.told c → TypedSoFar line s s c c 0
 unfolding handed_none
 typed_none line s c has = record {
   handed = handed_none (typing_on line) (typing_one line) s c (typing_each line) has;
@@ -107,7 +107,7 @@ typed_none line s c has = record {
 nth_is : (line : TypeLine) (n k : ℕ) (text text' : List ℕ) → n ≡ k → text ≡ text' → typed_nth line (n + 1) text ≡ typed_nth line (suc k) text'
 nth_is line n k text text' count is = rw (count, is, add-one) refl
 
-pub typed_more : (line : TypeLine) (before mid read' now' : Seen) (first c d : Reading) (n : ℕ) (text : List ℕ) (x : Unit {0}) (so : TypedSoFar line before mid first c n)
+pub typed_more : (line : TypeLine) (before mid read' now' : Seen) (first c d : Cursor) (n : ℕ) (text : List ℕ) (x : Unit {0}) (so : TypedSoFar line before mid first c n)
     → Hands mid.told c d (Ok true) → SameFile c d → c.left ≡ d.left + 1 → HasRead mid read' → text ≡ text_of d
     → Does read' now' (typed_nth line (n + 1) text) (Ok x) itself → TypedSoFar line before now' first d (n + 1)
 unfolding handed_more
@@ -163,21 +163,21 @@ module _ (old : Spot) (words : List Token) (n : ℕ) (line : TypeLine) (file : O
       ∙ ap (λ (k : ℕ). reading (typing_from line) u f (wanted f) (type_ended s line n k) (failed_tree old.state u units)) long))
 
   -- so many were handed out, and they are among those that are wanted
-  among : (mid : Spot) (c : Reading) (k : ℕ) (so : TypedSoFar line old.world mid.world file.cursor c k) → k ≤ last → AreAmong wanted so.handed.front
+  among : (mid : Spot) (c : Cursor) (k : ℕ) (so : TypedSoFar line old.world mid.world file.cursor c k) → k ≤ last → AreAmong wanted so.handed.front
   among mid c k so low f more is =
       let long : length f.records ≡ length so.handed.front + length more = ap length is ∙ length-append so.handed.front more in
       let count = so.count in
       omega arith
 
   -- a further record is there
-  pub typed_left : (mid : Spot) (c : Reading) (k : ℕ) → TypedSoFar line old.world mid.world file.cursor c k → k < last → 1 ≤ c.left
+  pub typed_left : (mid : Spot) (c : Cursor) (k : ℕ) → TypedSoFar line old.world mid.world file.cursor c k → k < last → 1 ≤ c.left
   typed_left mid c k so less =
       let few = last_few in
       let left = so.left in
       let count = o.count in
       omega arith
 
-  pub typed_stops : (mid read' new : Spot) (c d : Reading) (k : ℕ) (text : List ℕ) (e : End) → TypedSoFar line old.world mid.world file.cursor c k → k < last
+  pub typed_stops : (mid read' new : Spot) (c d : Cursor) (k : ℕ) (text : List ℕ) (e : End) → TypedSoFar line old.world mid.world file.cursor c k → k < last
       → Hands mid.world.told c d (Ok true) → HasRead mid.world read'.world → text ≡ text_of d → Does {T = Unit {0}} read'.world new.world (typed_nth line (k + 1) text) (Err e) itself
       → new.state ≡ old.state → Acts old new tree (Err e) (course_of new.state)
   typed_stops mid read' new c d k text e so less hands read is does same =
@@ -198,7 +198,7 @@ module _ (old : Spot) (words : List Token) (n : ℕ) (line : TypeLine) (file : O
       (λ edge. subst (λ (j : ℕ). Rose j new.world.edges) edges (does.cause edge))
 
   -- all that are wanted were handed out
-  pub typed_all : (mid : Spot) (c : Reading) (k : ℕ) → TypedSoFar line old.world mid.world file.cursor c k → k ≡ last → mid.state ≡ old.state → Comes old mid tree ended
+  pub typed_all : (mid : Spot) (c : Cursor) (k : ℕ) → TypedSoFar line old.world mid.world file.cursor c k → k ≡ last → mid.state ≡ old.state → Comes old mid tree ended
   typed_all mid c k so all same =
       read_wanted (typing_on line) old mid mid file.cursor c tree o.seat.letter.unit wanted type_then ended reads so.handed (reads_none mid.world) same
       (λ f more is.
@@ -211,7 +211,7 @@ module _ (old : Spot) (words : List Token) (n : ℕ) (line : TypeLine) (file : O
   last_so : (whole : Bool) → (last == file.count) ≡ whole → (wanted_of line.range file.count == file.count) ≡ whole
   last_so whole is = ap (λ (k : ℕ). k == file.count) (sym last_is) ∙ is
 
-  pub typed_part : (mid : Spot) (c : Reading) (k : ℕ) → TypedSoFar line old.world mid.world file.cursor c k → k ≡ last → mid.state ≡ old.state → last < file.count
+  pub typed_part : (mid : Spot) (c : Cursor) (k : ℕ) → TypedSoFar line old.world mid.world file.cursor c k → k ≡ last → mid.state ≡ old.state → last < file.count
       → Acts old mid tree (Ok (course.Went (pos 0))) (course_of mid.state)
   typed_part mid c k so all same less =
       let e = last_so false (ne_eqb last file.count (λ (is : last ≡ file.count). omega (arith, is, less))) in
@@ -219,7 +219,7 @@ module _ (old : Spot) (words : List Token) (n : ℕ) (line : TypeLine) (file : O
       (comes_then old mid mid tree ended (λ units. Done (course_of mid.state units (course.Went (pos 0)))) (typed_all mid c k so all same)
       (comes_same mid ended (λ units. Done (course_of mid.state units (course.Went (pos 0)))) (λ units h. rw (same, e) refl)))
 
-  pub typed_whole : (mid new : Spot) (c : Reading) (k : ℕ) (r : Result declared.Course End) → TypedSoFar line old.world mid.world file.cursor c k → k ≡ last → mid.state ≡ old.state
+  pub typed_whole : (mid new : Spot) (c : Cursor) (k : ℕ) (r : Result declared.Course End) → TypedSoFar line old.world mid.world file.cursor c k → k ≡ last → mid.state ≡ old.state
       → file.count ≤ last → Acts mid new (λ units. last_consuming (machine_of old.state units) n line.range.input.name) r (course_of new.state)
       → Acts old new tree r (course_of new.state)
   typed_whole mid new c k r so all same high a =
@@ -230,7 +230,7 @@ module _ (old : Spot) (words : List Token) (n : ℕ) (line : TypeLine) (file : O
       (acts_same mid new ended (λ units. last_consuming (machine_of old.state units) n line.range.input.name) r (course_of new.state) (λ units h. rw e refl) a)
 
   -- the file couldn't be read any further, which is typed
-  pub typed_unread : (mid read' new : Spot) (c d : Reading) (k : ℕ) (why : DiskFault) (r : Result declared.Course End) → TypedSoFar line old.world mid.world file.cursor c k → k < last
+  pub typed_unread : (mid read' new : Spot) (c d : Cursor) (k : ℕ) (why : DiskFault) (r : Result declared.Course End) → TypedSoFar line old.world mid.world file.cursor c k → k < last
       → (why ≡ failed.Device) ⊎ (why ≡ failed.Altered) → Hands mid.world.told c d (Err why) → OnlyReads {T = Bool} mid.world read'.world failed.Device (Err why) → read'.state ≡ old.state
       → Does read'.world new.world (saying (typed_line (message_text (unread_message why file.vdev)))) r said → IfOk r (λ x. x ≡ course.Went (pos (unread_code why)))
       → new.state ≡ read'.state → Acts old new tree r (course_of new.state)

@@ -12,8 +12,8 @@ use Rattle.cms_line.specs.declared.token.Token.{Token}
 use Rattle.cms_operands.specs.Choices.{chosen_of, flag}
 use Rattle.cms_operands.specs.Operands.{ended, needed, operands_of, output_mode, writing_mode}
 use Rattle.cms_operands.specs.Refusals.{text_at}
-use Rattle.cms_operands.specs.declared.choosing.ChosenOption.{ChosenOption}
-use Rattle.cms_operands.specs.declared.choosing.OptionForm.{OptionForm}
+use Rattle.cms_operands.specs.declared.options.ChosenOption.{ChosenOption}
+use Rattle.cms_operands.specs.declared.options.OptionForm.{OptionForm}
 use Rattle.cms_operands.specs.declared.operand.WriteMode.{WriteMode}
 use Rattle.cms_operands.specs.declared.refusal.Refusal.{Refusal}
 use Rattle.cms_operands.specs.declared.refusal.Refusal.TheVariants.{BadMode}
@@ -21,7 +21,7 @@ use Rattle.cms_search.specs.DeviceSteps.{Stepped}
 use Rattle.cms_search.specs.Machine.{Machine, Course}
 use Rattle.cms_search.specs.Refusals.{on_line}
 use Rattle.cms_search.specs.Searches.{Listed, Shelf, item_at, shelves_in}
-use Rattle.cms_search.specs.Tables.{Accesses, shelves_of}
+use Rattle.cms_search.specs.Tables.{AccessTable, shelves_of}
 use Rattle.cms_search.specs.Texts.{letter_text}
 use Rattle.cms_files.specs.Files.{file_exists, file_text, has_name, shelf_with}
 use Rattle.cms_files.specs.Identifiers.{name_choice, output_name}
@@ -131,5 +131,5 @@ abbrev pub HasMode : Option ℕ → Type 0
 HasMode number = IfSome number (λ k. k ≤ 6)
 
 -- whether the new name is another file's, of the disk of a letter
-abbrev pub AreOthers : Accesses → ℕ → Name → Name → Bool → Type 0
+abbrev pub AreOthers : AccessTable → ℕ → Name → Name → Bool → Type 0
 AreOthers t n from to others = IfSome (item_at (shelves_of t) n) (λ shelf. others ≡ is_others from to shelf.files)

@@ -8,11 +8,11 @@ use Rattle.cms_line.specs.declared.token.Token.{Token}
 use Rattle.cms_operands.specs.Choices.{chosen_of, flag, form}
 use Rattle.cms_operands.specs.Operands.{ended, largest, operands_of}
 use Rattle.cms_operands.specs.Optional.{given_number_or_all, number_or}
-use Rattle.cms_operands.specs.declared.choosing.ChosenOption.{ChosenOption}
-use Rattle.cms_operands.specs.declared.choosing.OptionForm.{OptionForm}
-use Rattle.cms_operands.specs.declared.choosing.Parameter.TheVariants as takes
-use Rattle.cms_operands.specs.declared.choosing.Setting.{Setting}
-use Rattle.cms_operands.specs.declared.choosing.Setting.TheVariants as says
+use Rattle.cms_operands.specs.declared.options.ChosenOption.{ChosenOption}
+use Rattle.cms_operands.specs.declared.options.OptionForm.{OptionForm}
+use Rattle.cms_operands.specs.declared.options.Parameter.TheVariants as takes
+use Rattle.cms_operands.specs.declared.options.Setting.{Setting}
+use Rattle.cms_operands.specs.declared.options.Setting.TheVariants as says
 use Rattle.cms_operands.specs.declared.refusal.Refusal.{Refusal}
 use Rattle.cms_operands.specs.declared.refusal.Refusal.TheVariants.{BadOperand}
 use Rattle.cms_search.specs.DeviceSteps.{reading}

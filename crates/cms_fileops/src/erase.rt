@@ -8,7 +8,7 @@ ghost use Rattle.cms_fileops.specs.Erase as spec;
 
 use cms_edf::Change;
 use cms_files::{
-    FileUpdate, NameChoice, TakenFile, Updated, file_text, find_written, name_choice, stop_search,
+    FileUpdate, Listed, NameChoice, Updated, file_text, find_written, name_choice, stop_search,
     tell_updated, update_disk, update_taken,
 };
 use cms_line::{Token, Tokens};
@@ -125,7 +125,7 @@ struct Erasing<'w> {
     types: bool,
 }
 
-impl FileUpdate<TakenFile> for Erasing<'_> {
+impl FileUpdate<Listed> for Erasing<'_> {
     ghost tree = { λ e. spec.erase_told e.words.now e.letter e.types };
 
     ghost takes = { λ e f. ⊤ };
@@ -135,7 +135,7 @@ impl FileUpdate<TakenFile> for Erasing<'_> {
         alloc: Global,
         world: &mut W,
         state: &mut State,
-        file: &TakenFile,
+        file: &Listed,
     ) -> Result<Updated, End> {
         let text = file_text(alloc, self.letter, &file.name, file.number)?;
         let updated = erase_file(alloc, world, state, self.words, self.letter, &file.name)?;

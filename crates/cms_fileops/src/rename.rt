@@ -9,7 +9,7 @@ ghost use Rattle.cms_fileops.specs.Rename as spec;
 
 use cms_edf::Change;
 use cms_files::{
-    FileUpdate, NameChoice, TakenFile, Updated, file_text, find_written, name_choice, output_name,
+    FileUpdate, Listed, NameChoice, Updated, file_text, find_written, name_choice, output_name,
     stop_exists, stop_search, tell_updated, update_disk, update_taken,
 };
 use cms_line::{Token, Tokens, Word};
@@ -18,7 +18,7 @@ use cms_operands::{
     ChosenOption, CommandFault, OptionForm, Refusal, WriteMode, chosen_options, ended, needed,
     operands, output_mode, writing_mode,
 };
-use cms_search::{Course, End, State, Table, letter_word, refuse_command};
+use cms_search::{AccessTable, Course, End, State, letter_word, refuse_command};
 use cms_world::World;
 use std::alloc::{AllocError, Global};
 
@@ -132,7 +132,7 @@ pub fn rename_line(alloc: Global, words: &Tokens) -> Result<RenameLine, CommandF
 }
 
 // What a file gets; without a digit its number stays.
-fn renaming_of(files: &RenameFiles, file: &TakenFile) -> Renaming
+fn renaming_of(files: &RenameFiles, file: &Listed) -> Renaming
     ensures { result ≡ spec.renaming_of files.now file.now }
 {
     Renaming {
@@ -142,7 +142,7 @@ fn renaming_of(files: &RenameFiles, file: &TakenFile) -> Renaming
 }
 
 // Whether the new name is that of another file of the disk of a letter.
-fn is_others(table: &Table, letter: u8, from: &Name, to: &Name) -> bool
+fn is_others(table: &AccessTable, letter: u8, from: &Name, to: &Name) -> bool
     ensures { spec.AreOthers table.now letter from.now to.now result }
 {
     if from == to {
@@ -226,7 +226,7 @@ struct Renamer<'w> {
     line: &'w RenameLine,
 }
 
-impl FileUpdate<TakenFile> for Renamer<'_> {
+impl FileUpdate<Listed> for Renamer<'_> {
     ghost tree = { λ r. spec.rename_listed r.words.now r.line.now };
 
     ghost takes = { λ r f. (spec.renaming_of r.line.now.files f).number ≤ 6 };
@@ -236,7 +236,7 @@ impl FileUpdate<TakenFile> for Renamer<'_> {
         alloc: Global,
         world: &mut W,
         state: &mut State,
-        file: &TakenFile,
+        file: &Listed,
     ) -> Result<Updated, End> {
         let letter = self.line.files.mode.letter;
         let to = renaming_of(&self.line.files, file);

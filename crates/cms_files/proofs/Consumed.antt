@@ -4,13 +4,13 @@ use Rattle.std.specs.Prelude.{⊤, ◌==◌, ◌&&◌, not, is_ok, IsSome}
 use Rattle.std.specs.Option.{ForSome, option_and_then}
 use Rattle.std.proofs.lemmas.Bool.{ne_eqb}
 use Rattle.cms_names.specs.declared.name.Name.{Name}
-use Rattle.cms_edf.specs.Asking.{infos_in}
+use Rattle.cms_edf.specs.FilesTold.{infos_in}
 use Rattle.cms_edf.specs.declared.held.FileInfo.{FileInfo}
 use Rattle.cms_disk.specs.Disks.{place_of}
 use Rattle.cms_search.specs.Machine.{Letter, Machine, letter_at}
 use Rattle.cms_search.specs.Searches.{has, item_at}
 use Rattle.cms_search.specs.Shows.{Shows}
-use Rattle.cms_search.specs.Tables.{Accesses, Seated, letters_of, writing}
+use Rattle.cms_search.specs.Tables.{AccessTable, Seated, letters_of, writing}
 use Rattle.cms_search.specs.declared.fault.SearchFault.{SearchFault}
 use Rattle.cms_files.specs.Files.{UnitFile, file_on}
 use Rattle.cms_files.specs.ModeThree.{is_consumed, is_numbered, read_once}
@@ -39,7 +39,7 @@ writes_so (Some disk) n = may_so disk.read_only n disk refl
 
 -- ---- whether it is erased
 
-module _ (t : Accesses) (n : ℕ) (name : Name) where
+module _ (t : AccessTable) (n : ℕ) (name : Name) where
   -- as the table tells of it
   pub consumed_told : (s : Machine) (i : FileInfo) → info_named t n name ≡ Some i → Shows t s
       → (i.number == read_once) && is_ok (writing (item_at (letters_of t) n) n) ≡ is_consumed s n name

@@ -10,17 +10,17 @@ use Rattle.cms_model.specs.Changes.{file_named}
 use Rattle.cms_model.specs.LawsChanges.{IsPlace}
 use Rattle.cms_model.specs.Minidisks.{File, Minidisk}
 use Rattle.cms_model.specs.Trees.{Image}
-use Rattle.cms_model.proofs.Changing.{none_added, place_changed}
+use Rattle.cms_model.proofs.ListChanges.{none_added, place_changed}
+use Rattle.cms_held.specs.HeldVolumes.{HeldFile, HeldVolume}
 use Rattle.cms_held.specs.LawsHeld.{IsFileOf, IsFound, IsMinidiskOf}
-use Rattle.cms_held.specs.Opening.{HeldFile, HeldVolume}
-use Rattle.cms_edf.specs.Asking.{info_of, infos_in, stored_in}
+use Rattle.cms_edf.specs.FilesTold.{info_of, infos_in, stored_in}
 use Rattle.cms_edf.specs.declared.held.FileInfo.{FileInfo}
 use Rattle.cms_disk.specs.Disks.{Accessed, StandsIn, place_of}
-use Rattle.cms_disk.proofs.Finding.{stands_tells, stored_told}
+use Rattle.cms_disk.proofs.FilesFound.{stands_tells, stored_told}
 use Rattle.cms_search.specs.Machine.{Letter, Machine, letter_at, minidisk_in}
 use Rattle.cms_search.specs.Searches.{item_at}
 use Rattle.cms_search.specs.Shows.{Shows}
-use Rattle.cms_search.specs.Tables.{Accesses, Seated}
+use Rattle.cms_search.specs.Tables.{AccessTable, Seated}
 use Rattle.cms_search.specs.declared.fault.SearchFault.{SearchFault}
 use Rattle.cms_search.specs.declared.search.Found.{Found}
 use Rattle.cms_search.proofs.Released.{get_map, letter_told}
@@ -81,7 +81,7 @@ seat_told s name n seat image m letter has stands =
 abbrev named_in : Name → Option Seated → Option FileInfo
 named_in name x = option_and_then (λ s. option_and_then (λ place. slice_get (infos_in s.disk.volume) place) (place_of name s.disk.volume)) x
 
-pub file_told : (t : Accesses) (s : Machine) (n : ℕ) (name : Name) → Shows t s → IsTold (file_on s name (letter_at s n)) (info_named t n name)
+pub file_told : (t : AccessTable) (s : Machine) (n : ℕ) (name : Name) → Shows t s → IsTold (file_on s name (letter_at s n)) (info_named t n name)
 file_told t s n name shows = cases (item_at t.seats n) refl
   where
     letter : letter_at s n ≡ option_map (λ (x : Seated). x.letter) (item_at t.seats n)
@@ -108,7 +108,7 @@ has_stored u image name d m k bytes stands at told =
     subst (λ (x : Option File). HasStored bytes (unit_file u x)) (sym named) (stored_told image d m f k bytes stands there told)
 
 -- of the file of a name where it was found
-pub found_stored : (t : Accesses) (s : Machine) (found : Found) (name : Name) (bytes : ℕ) → IsFoundAt t found name → Some bytes ≡ stored_found t found → Shows t s
+pub found_stored : (t : AccessTable) (s : Machine) (found : Found) (name : Name) (bytes : ℕ) → IsFoundAt t found name → Some bytes ≡ stored_found t found → Shows t s
     → HasStored bytes (file_on s name (letter_at s found.letter))
 found_stored t s found name bytes here is shows =
     let seat = here.seat in
@@ -124,7 +124,7 @@ found_stored t s found name bytes here is shows =
 
 -- ---- what is told of the file in a place, in every world
 
-pub found_if : (t : Accesses) (found : Found) (d : Accessed) (P : FileInfo → Type 0) → Some d ≡ option_map (λ (s : Seated). s.disk) (item_at t.seats found.letter)
+pub found_if : (t : AccessTable) (found : Found) (d : Accessed) (P : FileInfo → Type 0) → Some d ≡ option_map (λ (s : Seated). s.disk) (item_at t.seats found.letter)
     → IfSome (slice_get (infos_in d.volume) found.place) P → IfSome (info_found t found) P
 found_if t found d P is holds = cases (item_at t.seats found.letter) is
   where

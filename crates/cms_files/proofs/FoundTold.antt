@@ -8,13 +8,13 @@ use Rattle.std.proofs.lemmas.List.Quantifiers.{position-Some}
 use Rattle.cms_names.specs.declared.name.Name.{Name}
 use Rattle.cms_model.specs.Minidisks.{same_name}
 use Rattle.cms_model.proofs.Results.{ok_same}
-use Rattle.cms_held.specs.Opening.{HeldFile, HeldVolume, names_in}
-use Rattle.cms_edf.specs.Asking.{info_of, infos_in, stored_in}
+use Rattle.cms_held.specs.HeldVolumes.{HeldFile, HeldVolume, names_in}
+use Rattle.cms_edf.specs.FilesTold.{info_of, infos_in, stored_in}
 use Rattle.cms_edf.specs.declared.held.FileInfo.{FileInfo}
 use Rattle.cms_disk.specs.Disks.{Accessed, place_of}
 use Rattle.cms_operands.specs.declared.mode.ReadMode.{ReadMode}
 use Rattle.cms_search.specs.Searches.{Listed, Shelf, find_first, first_among, first_placed, found_at, has, item_at, letters_of_mode, may_find, placed_in, placed_on}
-use Rattle.cms_search.specs.Tables.{Accesses, Seated, listed_held, shelf_of, shelves_of}
+use Rattle.cms_search.specs.Tables.{AccessTable, Seated, listed_held, shelf_of, shelves_of}
 use Rattle.cms_search.specs.declared.fault.SearchFault.{SearchFault}
 use Rattle.cms_search.specs.declared.search.Found.{Found}
 use Rattle.cms_search.proofs.Released.{get_map, position_map}
@@ -61,7 +61,7 @@ file_at hs name k is =
     let long = length-map hs (λ (h : HeldFile). h.entry.name) in
     held_at hs k (omega (arith, within, long))
 
-module _ (t : Accesses) (mode : ReadMode) (name : Name) (x : Found) where
+module _ (t : AccessTable) (mode : ReadMode) (name : Name) (x : Found) where
   seated_at : (seat : Option Seated) → option_and_then (λ (shelf : Shelf). placed_in mode name shelf) (option_map shelf_of seat) ≡ Some x.place
       → (s : Seated) × (seat ≡ Some s) × (place_of name s.disk.volume ≡ Some x.place)
   seated_at None is = absurd (cc is)
@@ -77,11 +77,11 @@ module _ (t : Accesses) (mode : ReadMode) (name : Name) (x : Found) where
 -- ---- what is told of what was found
 
 -- it is told of the file in its place
-pub info_there : (t : Accesses) (found : Found) (seat : Seated) → item_at t.seats found.letter ≡ Some seat → info_found t found ≡ slice_get (infos_in seat.disk.volume) found.place
+pub info_there : (t : AccessTable) (found : Found) (seat : Seated) → item_at t.seats found.letter ≡ Some seat → info_found t found ≡ slice_get (infos_in seat.disk.volume) found.place
 info_there t found seat there = ap (λ (x : Option Seated). option_and_then (λ (y : Seated). slice_get (infos_in y.disk.volume) found.place) x) there
 
 -- it is told of the file of that name
-pub same_info : (t : Accesses) (found : Found) (name : Name) → IsFoundAt t found name → info_found t found ≡ info_named t found.letter name
+pub same_info : (t : AccessTable) (found : Found) (name : Name) → IsFoundAt t found name → info_found t found ≡ info_named t found.letter name
 same_info t found name is =
     let v = is.seat.disk.volume in
     let named : info_named t found.letter name ≡ slice_get (infos_in v) found.place =
@@ -89,18 +89,18 @@ same_info t found name is =
     ∙ ap (λ (p : Option ℕ). option_and_then (λ (k : ℕ). slice_get (infos_in v) k) p) is.place_is in
     info_there t found is.seat is.there ∙ sym named
 
-pub told_as : (t : Accesses) (found : Found) (name : Name) (info : FileInfo) → IsFoundAt t found name → info_found t found ≡ Some info → info_named t found.letter name ≡ Some info
+pub told_as : (t : AccessTable) (found : Found) (name : Name) (info : FileInfo) → IsFoundAt t found name → info_found t found ≡ Some info → info_named t found.letter name ≡ Some info
 told_as t found name info is told = sym (same_info t found name is) ∙ told
 
 -- on its disk the name has that place
-pub on_disk : (t : Accesses) (found : Found) (name : Name) (d : Accessed) → IsFoundAt t found name → Some d ≡ option_map (λ (s : Seated). s.disk) (item_at t.seats found.letter)
+pub on_disk : (t : AccessTable) (found : Found) (name : Name) (d : Accessed) → IsFoundAt t found name → Some d ≡ option_map (λ (s : Seated). s.disk) (item_at t.seats found.letter)
     → place_of name d.volume ≡ Some found.place
 on_disk t found name d here is =
     let same : d ≡ here.seat.disk = same_Some d here.seat.disk (is ∙ ap (λ (x : Option Seated). option_map (λ (s : Seated). s.disk) x) here.there) in
     subst (λ (a : Accessed). place_of name a.volume ≡ Some found.place) (sym same) here.place_is
 
 -- as many bytes are stored of it
-pub same_stored : (t : Accesses) (found : Found) (name : Name) → IsFoundAt t found name → stored_found t found ≡ stored_named t found.letter name
+pub same_stored : (t : AccessTable) (found : Found) (name : Name) → IsFoundAt t found name → stored_found t found ≡ stored_named t found.letter name
 same_stored t found name is =
     let v = is.seat.disk.volume in
     let there : stored_found t found ≡ slice_get (stored_in v) found.place =
@@ -111,7 +111,7 @@ same_stored t found name is =
     there ∙ sym named
 
 -- something is told of it
-pub is_found : (t : Accesses) (found : Found) (name : Name) → IsFoundAt t found name → IsSome (info_found t found)
+pub is_found : (t : AccessTable) (found : Found) (name : Name) → IsFoundAt t found name → IsSome (info_found t found)
 is_found t found name is =
     let v = is.seat.disk.volume in
     let file = file_at v.files name found.place is.place_is in
@@ -121,7 +121,7 @@ is_found t found name is =
 -- ---- the file of a name
 
 -- it is in the place that is told of it
-pub placed_named : (t : Accesses) (n : ℕ) (name : Name) (k : ℕ) → place_named t n name ≡ Some k → IsFoundAt t (found_at n k) name
+pub placed_named : (t : AccessTable) (n : ℕ) (name : Name) (k : ℕ) → place_named t n name ≡ Some k → IsFoundAt t (found_at n k) name
 placed_named t n name k is = cases (item_at t.seats n) refl is
   where
     cases : (x : Option Seated) → item_at t.seats n ≡ x → option_and_then (λ (s : Seated). place_of name s.disk.volume) x ≡ Some k → IsFoundAt t (found_at n k) name
@@ -129,7 +129,7 @@ placed_named t n name k is = cases (item_at t.seats n) refl is
     cases (Some s) at e = record { seat = s; there = at; place_is = e }
 
 -- one of which something is told has a place
-pub named_placed : (t : Accesses) (n : ℕ) (name : Name) (info : FileInfo) → Some info ≡ info_named t n name → IsSome (place_named t n name)
+pub named_placed : (t : AccessTable) (n : ℕ) (name : Name) (info : FileInfo) → Some info ≡ info_named t n name → IsSome (place_named t n name)
 named_placed t n name info is = cases (item_at t.seats n) is
   where
     placed : (v : HeldVolume) (p : Option ℕ) → Some info ≡ option_and_then (λ (k : ℕ). slice_get (infos_in v) k) p → IsSome p

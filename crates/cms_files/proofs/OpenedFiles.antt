@@ -12,18 +12,18 @@ use Rattle.cms_model.specs.Minidisks.{File, Minidisk, Volume}
 use Rattle.cms_machine.specs.Acts.{Act, Does}
 use Rattle.cms_machine.specs.Slots.{Slot, Settled}
 use Rattle.cms_machine.specs.Steps.{Get, Outcome}
-use Rattle.cms_edf.specs.Asking.{info_of, infos_in}
+use Rattle.cms_edf.specs.FilesTold.{info_of, infos_in}
 use Rattle.cms_edf.specs.declared.held.FileInfo.{FileInfo}
-use Rattle.cms_held.specs.Opening.{HeldFile}
-use Rattle.cms_records.specs.Pieces.{Begun}
-use Rattle.cms_disk.specs.Cursors.{IsFirst, IsUnread, Reading, first_begun}
+use Rattle.cms_held.specs.HeldVolumes.{HeldFile}
+use Rattle.cms_records.specs.Pieces.{RecordState}
+use Rattle.cms_disk.specs.Cursors.{IsFirst, IsUnread, Cursor, first_begun}
 use Rattle.cms_disk.specs.Disks.{Accessed, FirstIn, OpensIn, StartsAt, place_of}
 use Rattle.cms_disk.specs.declared.unit.UnitInfo.{UnitInfo}
 use Rattle.cms_search.specs.Calls.{IsUsable, Spot, machine_of}
 use Rattle.cms_search.specs.Machine.{Letter, Machine, letter_at}
 use Rattle.cms_search.specs.Searches.{item_at}
 use Rattle.cms_search.specs.Shows.{Shows}
-use Rattle.cms_search.specs.Tables.{Accesses, Seated}
+use Rattle.cms_search.specs.Tables.{AccessTable, Seated}
 use Rattle.cms_search.specs.Units.{vdev_of}
 use Rattle.cms_search.specs.declared.fault.SearchFault.TheVariants as why
 use Rattle.cms_search.specs.declared.search.Found.{Found}
@@ -48,12 +48,12 @@ none_with None e = refl
 none_with (Some s) e = absurd (cc e)
 
 -- the machine has the letter
-pub letter_shown : (t : Accesses) (s : Machine) (n : ℕ) (seat : Seated) → Shows t s → item_at t.seats n ≡ Some seat → letter_at s n ≡ Some seat.letter
+pub letter_shown : (t : AccessTable) (s : Machine) (n : ℕ) (seat : Seated) → Shows t s → item_at t.seats n ≡ Some seat → letter_at s n ≡ Some seat.letter
 letter_shown t s n seat shows there = ap (λ (ls : List (Option Letter)). item_at ls n) (sym shows.letters) ∙ letter_is t n seat there
 
 -- ---- no file
 
-pub none_on : (t : Accesses) (s : Machine) (n : ℕ) (name : Name) → item_at t.seats n ≡ None → Shows t s → file_on s name (letter_at s n) ≡ Err why.NotFound
+pub none_on : (t : AccessTable) (s : Machine) (n : ℕ) (name : Name) → item_at t.seats n ≡ None → Shows t s → file_on s name (letter_at s n) ≡ Err why.NotFound
 none_on t s n name none shows =
     let letter : letter_at s n ≡ None =
     ap (λ (ls : List (Option Letter)). item_at ls n) (sym shows.letters) ∙ (letter_told t.seats n ∙ ap (λ (x : Option Seated). option_map (λ (y : Seated). y.letter) x) none) in
@@ -67,16 +67,16 @@ info_at (x ∷ hs) zero info h told is = let e : info_of x ≡ info = same_Some 
 info_at (x ∷ hs) (suc k) info h told is = info_at hs k info h told is
 
 -- nothing of it was read, and its records have one length
-unread_first : (unit total bsize : ℕ) (blocks : List ℕ) (format : Format) (high count : ℕ) (c : Reading) → IsFirst unit total bsize blocks format high count c → format ≡ F → IsUnread c
+unread_first : (unit total bsize : ℕ) (blocks : List ℕ) (format : Format) (high count : ℕ) (c : Cursor) → IsFirst unit total bsize blocks format high count c → format ≡ F → IsUnread c
 unread_first unit total bsize blocks format high count c first same = record {
   done = first.done;
   all = first.all ∙ sym first.bsize;
   over = first.over;
-  begun = first.begun ∙ (ap (λ (f : Format). first_begun f high) same ∙ ap (first_begun F) (sym (ap (λ (b : Begun). b.longest) first.begun)));
+  begun = first.begun ∙ (ap (λ (f : Format). first_begun f high) same ∙ ap (first_begun F) (sym (ap (λ (b : RecordState). b.longest) first.begun)));
 }
 
 -- it was opened where it was found
-opened_at : (t : Accesses) (n : ℕ) (name : Name) (d : Accessed) (place : ℕ) (info : FileInfo) (file : OpenFile)
+opened_at : (t : AccessTable) (n : ℕ) (name : Name) (d : Accessed) (place : ℕ) (info : FileInfo) (file : OpenFile)
     → Some d ≡ option_map (λ (x : Seated). x.disk) (item_at t.seats n) → Some place ≡ place_of name d.volume → slice_get (infos_in d.volume) place ≡ Some info
     → OpensIn d name file.cursor → StartsAt name d.volume file.cursor → file.count ≡ info.count → file.format ≡ info.format
     → ((s : Seated) → item_at t.seats n ≡ Some s → option_map (λ (unit : UnitInfo). unit.vdev) (slice_get t.units s.letter.unit) ≡ Some file.vdev) → IsOpened t n name file
@@ -102,7 +102,7 @@ told_within [] k some = absurd (false≢true some)
 told_within (h ∷ hs) zero some = omega arith
 told_within (h ∷ hs) (suc k) some = let less = told_within hs k some in omega (arith, less)
 
-pub found_within : (t : Accesses) (found : Found) (d : Accessed) → IsSome (info_found t found) → Some d ≡ option_map (λ (x : Seated). x.disk) (item_at t.seats found.letter)
+pub found_within : (t : AccessTable) (found : Found) (d : Accessed) → IsSome (info_found t found) → Some d ≡ option_map (λ (x : Seated). x.disk) (item_at t.seats found.letter)
     → found.place < length d.volume.files
 found_within t found d some is =
     let seat = seat_with (item_at t.seats found.letter) d is in
@@ -110,7 +110,7 @@ found_within t found d some is =
     subst (λ (a : Accessed). found.place < length a.volume.files) seat.2 (told_within seat.0.disk.volume.files found.place there)
 
 -- it was opened in the place where the file of a name was found
-pub opened_found_at : (t : Accesses) (found : Found) (name : Name) (d : Accessed) (info : FileInfo) (file : OpenFile) → IsFoundAt t found name → info_found t found ≡ Some info
+pub opened_found_at : (t : AccessTable) (found : Found) (name : Name) (d : Accessed) (info : FileInfo) (file : OpenFile) → IsFoundAt t found name → info_found t found ≡ Some info
     → Some d ≡ option_map (λ (x : Seated). x.disk) (item_at t.seats found.letter) → ((n : Name) → place_of n d.volume ≡ Some found.place → OpensIn d n file.cursor)
     → FirstIn d.volume found.place file.cursor → file.count ≡ info.count → file.format ≡ info.format
     → ((s : Seated) → item_at t.seats found.letter ≡ Some s → option_map (λ (unit : UnitInfo). unit.vdev) (slice_get t.units s.letter.unit) ≡ Some file.vdev) → IsOpened t found.letter name file
@@ -123,7 +123,7 @@ opened_found_at t found name d info file here told is opens first count format d
     (record { place = found.place; place_is = place; file = first.0; file_is = first.1; first = first.2 }) count format device
 
 -- the machine finds it
-pub opened_found : (t : Accesses) (s : Machine) (n : ℕ) (name : Name) (file : OpenFile) → IsOpened t n name file → Shows t s → HasRecords file.count (file_on s name (letter_at s n))
+pub opened_found : (t : AccessTable) (s : Machine) (n : ℕ) (name : Name) (file : OpenFile) → IsOpened t n name file → Shows t s → HasRecords file.count (file_on s name (letter_at s n))
 opened_found t s n name file o shows =
     let x = shows.each n o.seat o.there in
     let found = o.opens x.0 x.1 x.3 in

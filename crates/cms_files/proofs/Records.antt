@@ -10,7 +10,7 @@ use Rattle.cms_fields.specs.Limits.{longest_record}
 use Rattle.cms_model.specs.Records.{Fits, length_of, longest, stored, with_length}
 use Rattle.cms_model.proofs.Records.{stored_append}
 use Rattle.cms_records.specs.Views.{fitted}
-use Rattle.cms_disk.proofs.Gathering.{longest_append}
+use Rattle.cms_disk.proofs.RecordsGathered.{longest_append}
 use Rattle.cms_files.specs.Gathered.{AreFile, IsGathered, record_in}
 use Rattle.cms_files.specs.declared.gathered.Gathered.{Gathered}
 

@@ -11,7 +11,7 @@ use Rattle.cms_disk.specs.Disks.{Accessed, place_of}
 use Rattle.cms_operands.specs.declared.operand.WriteMode.{WriteMode}
 use Rattle.cms_search.specs.Machine.{Letter}
 use Rattle.cms_search.specs.Searches.{Listed, Shelf, Shelves, item_at}
-use Rattle.cms_search.specs.Tables.{Accesses, Seated, letters_in, letters_of, listed_held, shelf_of, shelves_of, writing}
+use Rattle.cms_search.specs.Tables.{AccessTable, Seated, letters_in, letters_of, listed_held, shelf_of, shelves_of, writing}
 use Rattle.cms_search.specs.declared.fault.SearchFault.{SearchFault}
 use Rattle.cms_search.specs.declared.fault.SearchFault.TheVariants as why
 use Rattle.cms_search.proofs.LetterDisks.{letter_is}
@@ -62,7 +62,7 @@ opened true n shelf is = absurd (cc is)
 opened false n shelf is = refl
 
 -- it isn't
-pub no_shelf : (t : Accesses) (n : ℕ) (e : SearchFault) → writing (item_at (letters_of t) n) n ≡ Err e → writable (shelves_of t) n ≡ Err e
+pub no_shelf : (t : AccessTable) (n : ℕ) (e : SearchFault) → writing (item_at (letters_of t) n) n ≡ Err e → writable (shelves_of t) n ≡ Err e
 no_shelf t n e is = cases (item_at t.seats n) refl
   where
     cases : (x : Option Seated) → item_at t.seats n ≡ x → writable (shelves_of t) n ≡ Err e
@@ -76,7 +76,7 @@ no_shelf t n e is = cases (item_at t.seats n) refl
         ap (λ (x : Option Shelf). writable_shelf n x) (shelf_at t n s at) ∙ locked s.letter.read_only n (shelf_of s) e w
 
 -- it is
-pub open_shelf : (t : Accesses) (n : ℕ) (s : Seated) → item_at t.seats n ≡ Some s → writing (item_at (letters_of t) n) n ≡ Ok tt → writable (shelves_of t) n ≡ Ok (shelf_of s)
+pub open_shelf : (t : AccessTable) (n : ℕ) (s : Seated) → item_at t.seats n ≡ Some s → writing (item_at (letters_of t) n) n ≡ Ok tt → writable (shelves_of t) n ≡ Ok (shelf_of s)
 open_shelf t n s at is =
     let w : writing (Some s.letter) n ≡ Ok tt = ap (λ (x : Option Letter). writing x n) (sym (letter_is t n s at)) ∙ is in
     ap (λ (x : Option Shelf). writable_shelf n x) (shelf_at t n s at) ∙ opened s.letter.read_only n (shelf_of s) w
@@ -85,7 +85,7 @@ pub may_be : (x : ⊤) (r : Result ⊤ SearchFault) → Ok x ≡ r → r ≡ Ok 
 may_be tt r e = sym e
 
 -- a letter that may be written has a disk
-pub never_empty : (t : Accesses) (n : ℕ) → writing (item_at (letters_of t) n) n ≡ Ok tt → None ≡ option_map (λ (s : Seated). s.disk) (item_at t.seats n) → ⊥
+pub never_empty : (t : AccessTable) (n : ℕ) → writing (item_at (letters_of t) n) n ≡ Ok tt → None ≡ option_map (λ (s : Seated). s.disk) (item_at t.seats n) → ⊥
 never_empty t n is none =
     let s = written_at t n is in
     let e : None ≡ Some s.0.disk = none ∙ ap (λ (x : Option Seated). option_map (λ (y : Seated). y.disk) x) s.1 in
@@ -100,7 +100,7 @@ some_listed (x ∷ xs) some = refl
 abbrev pub AreTaken : NameChoice → WriteMode → Accessed → List Listed → Type 0
 AreTaken names mode d files = files ≡ filter (is_taken names mode.number) (map listed_held d.volume.files)
 
-taken_on : (t : Accesses) (names : NameChoice) (mode : WriteMode) (d : Accessed) (files : List Listed) → writing (item_at (letters_of t) mode.letter) mode.letter ≡ Ok tt
+taken_on : (t : AccessTable) (names : NameChoice) (mode : WriteMode) (d : Accessed) (files : List Listed) → writing (item_at (letters_of t) mode.letter) mode.letter ≡ Ok tt
     → Some d ≡ option_map (λ (s : Seated). s.disk) (item_at t.seats mode.letter) → AreTaken names mode d files → files_written (shelves_of t) names mode ≡ some_found files
 taken_on t names mode d files may there taken =
     let s = seat_with (item_at t.seats mode.letter) d there in
@@ -109,15 +109,15 @@ taken_on t names mode d files may there taken =
     ap (λ (x : Accessed). filter (is_taken names mode.number) (map listed_held x.volume.files)) s.2 ∙ sym taken in
     rw shelf (ap (λ (xs : List Listed). some_found xs) list)
 
-pub files_found : (t : Accesses) (names : NameChoice) (mode : WriteMode) (d : Accessed) (files : List Listed) → writing (item_at (letters_of t) mode.letter) mode.letter ≡ Ok tt
+pub files_found : (t : AccessTable) (names : NameChoice) (mode : WriteMode) (d : Accessed) (files : List Listed) → writing (item_at (letters_of t) mode.letter) mode.letter ≡ Ok tt
     → Some d ≡ option_map (λ (s : Seated). s.disk) (item_at t.seats mode.letter) → AreTaken names mode d files → (files ≡ [] → ⊥) → files_written (shelves_of t) names mode ≡ Ok files
 files_found t names mode d files may there taken some = taken_on t names mode d files may there taken ∙ some_listed files some
 
-pub no_files : (t : Accesses) (names : NameChoice) (mode : WriteMode) (d : Accessed) (files : List Listed) → writing (item_at (letters_of t) mode.letter) mode.letter ≡ Ok tt
+pub no_files : (t : AccessTable) (names : NameChoice) (mode : WriteMode) (d : Accessed) (files : List Listed) → writing (item_at (letters_of t) mode.letter) mode.letter ≡ Ok tt
     → Some d ≡ option_map (λ (s : Seated). s.disk) (item_at t.seats mode.letter) → AreTaken names mode d files → files ≡ [] → files_written (shelves_of t) names mode ≡ Err why.NotFound
 no_files t names mode d files may there taken none = taken_on t names mode d files may there taken ∙ ap (λ (xs : List Listed). some_found xs) none
 
-pub files_refused : (t : Accesses) (names : NameChoice) (mode : WriteMode) (e : SearchFault) → writing (item_at (letters_of t) mode.letter) mode.letter ≡ Err e
+pub files_refused : (t : AccessTable) (names : NameChoice) (mode : WriteMode) (e : SearchFault) → writing (item_at (letters_of t) mode.letter) mode.letter ≡ Err e
     → files_written (shelves_of t) names mode ≡ Err e
 files_refused t names mode e is = let shelf = no_shelf t mode.letter e is in rw shelf refl
 
@@ -126,7 +126,7 @@ files_refused t names mode e is = let shelf = no_shelf t mode.letter e is in rw 
 abbrev shelf_where : Bool → Shelf → Result Shelf SearchFault
 shelf_where there shelf = if there then Ok shelf else Err why.NotFound
 
-pub file_there : (t : Accesses) (n : ℕ) (name : Name) (d : Accessed) → writing (item_at (letters_of t) n) n ≡ Ok tt → Some d ≡ option_map (λ (s : Seated). s.disk) (item_at t.seats n)
+pub file_there : (t : AccessTable) (n : ℕ) (name : Name) (d : Accessed) → writing (item_at (letters_of t) n) n ≡ Ok tt → Some d ≡ option_map (λ (s : Seated). s.disk) (item_at t.seats n)
     → IsSome (place_of name d.volume) → IsSome (found_shelf (shelf_with (shelves_of t) n name))
 file_there t n name d may there some =
     let s = seat_with (item_at t.seats n) d there in
@@ -138,7 +138,7 @@ file_there t n name d may there some =
     found None is = absurd (cc is)
     found (Some k) is = refl
 
-pub file_gone : (t : Accesses) (n : ℕ) (name : Name) (d : Accessed) → writing (item_at (letters_of t) n) n ≡ Ok tt → Some d ≡ option_map (λ (s : Seated). s.disk) (item_at t.seats n)
+pub file_gone : (t : AccessTable) (n : ℕ) (name : Name) (d : Accessed) → writing (item_at (letters_of t) n) n ≡ Ok tt → Some d ≡ option_map (λ (s : Seated). s.disk) (item_at t.seats n)
     → (IsSome (place_of name d.volume) → ⊥) → shelf_with (shelves_of t) n name ≡ Err why.NotFound
 file_gone t n name d may there none =
     let s = seat_with (item_at t.seats n) d there in
@@ -150,11 +150,11 @@ file_gone t n name d may there none =
     missing None is = refl
     missing (Some k) is = absurd (is refl)
 
-pub file_refused : (t : Accesses) (n : ℕ) (name : Name) (e : SearchFault) → writing (item_at (letters_of t) n) n ≡ Err e → shelf_with (shelves_of t) n name ≡ Err e
+pub file_refused : (t : AccessTable) (n : ℕ) (name : Name) (e : SearchFault) → writing (item_at (letters_of t) n) n ≡ Err e → shelf_with (shelves_of t) n name ≡ Err e
 file_refused t n name e is = let shelf = no_shelf t n e is in rw shelf refl
 
 -- the file is there in the disk that is changed
-pub there_on : (t : Accesses) (n : ℕ) (name : Name) (d : Accessed) → Some d ≡ option_map (λ (s : Seated). s.disk) (item_at t.seats n) → IsSome (place_of name d.volume)
+pub there_on : (t : AccessTable) (n : ℕ) (name : Name) (d : Accessed) → Some d ≡ option_map (λ (s : Seated). s.disk) (item_at t.seats n) → IsSome (place_of name d.volume)
     → ForSome (item_at t.seats n) (λ s. IsSome (place_of name s.disk.volume))
 there_on t n name d there some s at =
     let e : Some d ≡ Some s.disk = there ∙ ap (λ (x : Option Seated). option_map (λ (y : Seated). y.disk) x) at in

@@ -7,7 +7,7 @@ use Rattle.cms_model.specs.Changes.{file_named}
 use Rattle.cms_model.specs.LawsChanges.{IsPlace}
 use Rattle.cms_model.specs.Minidisks.{File, Minidisk}
 use Rattle.cms_model.specs.Trees.{Image}
-use Rattle.cms_model.proofs.Changing.{place_changed}
+use Rattle.cms_model.proofs.ListChanges.{place_changed}
 use Rattle.cms_machine.specs.Acts as acts
 use Rattle.cms_machine.specs.Acts.{Act}
 use Rattle.cms_machine.specs.Runs.{Ran}
@@ -15,7 +15,7 @@ use Rattle.cms_machine.specs.Slots.{Slot}
 use Rattle.cms_machine.specs.Steps.{Get, MayGet, Offers, Outcome, faults_in}
 use Rattle.cms_machine.proofs.Single.{ran_still}
 use Rattle.cms_disk.specs.Disks.{Accessed, StandsIn, place_of}
-use Rattle.cms_disk.proofs.Finding.{stands_tells}
+use Rattle.cms_disk.proofs.FilesFound.{stands_tells}
 use Rattle.cms_held.specs.LawsHeld.{IsFound}
 use Rattle.cms_world.specs.Seen.{Seen}
 use Rattle.cms_search.specs.Calls.{Comes, Holds, Spot, at, holds}

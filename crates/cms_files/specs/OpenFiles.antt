@@ -6,14 +6,14 @@ use Rattle.cms_names.specs.declared.name.Name.{Name}
 use Rattle.cms_disk.specs.Cursors.{IsUnread}
 use Rattle.cms_disk.specs.Disks.{OpensIn, StartsAt}
 use Rattle.cms_search.specs.Searches.{item_at}
-use Rattle.cms_search.specs.Tables.{Accesses, Seated}
+use Rattle.cms_search.specs.Tables.{AccessTable, Seated}
 use Rattle.cms_search.specs.declared.fault.SearchFault.{SearchFault}
 use Rattle.cms_files.specs.Files.{UnitFile}
 use Rattle.cms_files.specs.declared.open_files.OpenFile.{OpenFile}
 
 -- nothing of the file of a name on the disk of letter n was handed out yet; its device, whether its records have one length, and their
 -- number are told
-pub record IsOpened (t : Accesses) (n : ℕ) (name : Name) (file : OpenFile) : Type 0 where
+pub record IsOpened (t : AccessTable) (n : ℕ) (name : Name) (file : OpenFile) : Type 0 where
   pub seat : Seated
   pub there : item_at t.seats n ≡ Some seat
   pub device : option_map (λ unit. unit.vdev) (slice_get t.units seat.letter.unit) ≡ Some file.vdev

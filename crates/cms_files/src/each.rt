@@ -4,13 +4,13 @@ ghost use Rattle.cms_fields.specs.Moments.{is_moment};
 ghost use Rattle.cms_search.specs.Calls.{Acts, IsUsable, course_of, machine_of, spot};
 ghost use Rattle.cms_search.specs.DeviceSteps.{Stepped};
 ghost use Rattle.cms_search.specs.Machine.{Machine};
-ghost use Rattle.cms_search.specs.Searches.{Listed};
+ghost use Rattle.cms_search.specs.Searches as searches;
 ghost use Rattle.cms_machine.specs.Acts.{Act};
 ghost use Rattle.cms_files.specs.Updates.{updated_of, updating_each, updating_taken};
 
 use crate::identifier::NameChoice;
 use crate::refusals::refuse_unfound;
-use crate::taken::{TakenFile, files_written};
+use crate::taken::{Listed, files_written};
 use crate::update::Updated;
 use cms_line::Tokens;
 use cms_operands::WriteMode;
@@ -77,7 +77,7 @@ pub fn update_each<W: World, F, U: FileUpdate<F>>(
 /// The files of a disk that a choice of names and a mode mean, which are the words of a line from its first operand on, are updated one
 /// after another in the directory's order, until one is refused. Refused before are a disk that isn't accessed or may only be read, and
 /// names that no file has.
-pub fn update_taken<W: World, U: FileUpdate<TakenFile>>(
+pub fn update_taken<W: World, U: FileUpdate<Listed>>(
     alloc: Global,
     world: &mut W,
     state: &mut State,
@@ -88,7 +88,7 @@ pub fn update_taken<W: World, U: FileUpdate<TakenFile>>(
 ) -> Result<Course, End>
     requires usable { IsUsable (spot W.World world.old state.old) }
     requires moment { is_moment state.old.moment ≡ true }
-    requires takes { (f : Listed) → f.number ≤ 6 → U.takes update.now f }
+    requires takes { (f : searches.Listed) → f.number ≤ 6 → U.takes update.now f }
     ensures acts { Acts (spot W.World world.old state.old) (spot W.World world.new state.new)
         (λ units. updating_taken (machine_of state.old units) words.now names.now mode.now
         (U.tree update.now))

@@ -25,7 +25,7 @@ pub use open_files::{OpenFile, open_found};
 pub use refusals::{NO_FILE, refuse_exists, refuse_unfound};
 pub use shown::{file_text, tell_updated};
 pub use stack::{StackEnd, has_room, stack_lines};
-pub use taken::{TakenFile, TakenFiles, files_written, find_written};
+pub use taken::{Listed, TakenFiles, files_written, find_written};
 pub use told::{ToldFile, info_found, info_named, stored_found, told_named};
 pub use update::{Updated, stop_exists, stop_search, stopped, update_disk};
 pub use write::{end_writing, write_file, write_last};

@@ -16,7 +16,7 @@ use crate::update::{Updated, update_disk};
 use cms_disk::FileInfo;
 use cms_edf::Change;
 use cms_names::Name;
-use cms_search::{Course, End, State, Table};
+use cms_search::{AccessTable, Course, End, State};
 use cms_world::World;
 use std::alloc::Global;
 
@@ -25,7 +25,7 @@ const READ_ONCE: u8 = 3;
 
 /// Whether reading a file on the disk of a letter, of which this is told, to its end erases it: its mode number is 3, and the disk isn't
 /// read-only.
-pub fn is_consumed(table: &Table, letter: u8, info: &FileInfo) -> bool
+pub fn is_consumed(table: &AccessTable, letter: u8, info: &FileInfo) -> bool
     ensures machine { (name : names.Name) (s : Machine)
         → Some info.now ≡ told.info_named table.now letter name → Shows table.now s
         → result ≡ spec.is_consumed s letter name }

@@ -11,7 +11,7 @@ ghost use Rattle.cms_files.specs.Told.{IsFoundAt, info_found};
 
 use cms_disk::{Cursor, FileInfo};
 use cms_names::Format;
-use cms_search::{End, Found, Table};
+use cms_search::{AccessTable, End, Found};
 use std::alloc::Global;
 
 /// A file that was opened.
@@ -31,7 +31,7 @@ pub struct OpenFile {
 /// there is no memory.
 pub fn open_found(
     alloc: Global,
-    table: &Table,
+    table: &AccessTable,
     found: Found,
     info: &FileInfo,
 ) -> Result<OpenFile, End>

@@ -12,20 +12,20 @@ use crate::identifier::{NameChoice, takes_number};
 use cms_disk::Minidisk;
 use cms_names::Name;
 use cms_operands::WriteMode;
-use cms_search::{SearchFault, Table};
+use cms_search::{AccessTable, SearchFault};
 use cms_text::Series;
 use std::alloc::{AllocError, Global};
 use std::marker::Model;
 
 /// A file that a command takes: its name and its mode number.
 #[derive(Drop)]
-pub struct TakenFile {
+pub struct Listed {
     pub name: Name,
     /// 0 to 6
     pub number: u8,
 }
 
-impl Model for TakenFile {
+impl Model for Listed {
     ghost use Rattle.cms_search.specs.Searches as searches;
 
     ghost Value = { searches.Listed };
@@ -34,16 +34,16 @@ impl Model for TakenFile {
 }
 
 /// The files that a command takes, in the order in which they stood.
-pub type TakenFiles = Series<TakenFile>;
+pub type TakenFiles = Series<Listed>;
 
-impl TakenFile {
+impl Listed {
     // The file at a place of a disk.
-    fn of(disk: &Minidisk, place: u32) -> TakenFile
+    fn of(disk: &Minidisk, place: u32) -> Listed
         requires { place < length disk.now.volume.files }
         ensures told { slice_get (map listed_held disk.now.volume.files) place ≡ Some result }
         ensures number { result.number ≤ 6 }
     {
-        TakenFile {
+        Listed {
             name: disk.info(place).name,
             number: disk.mode_number(place),
         }
@@ -70,7 +70,7 @@ fn collect(
 {
     let mut files = TakenFiles::new(alloc);
     for place in 0..disk.count() {
-        let file = TakenFile::of(disk, place);
+        let file = Listed::of(disk, place);
         if file.is_taken(names, number) {
             files.push(file)?;
         }
@@ -83,7 +83,7 @@ fn collect(
 /// of them; else there is no memory.
 pub fn files_written(
     alloc: Global,
-    table: &Table,
+    table: &AccessTable,
     names: &NameChoice,
     mode: &WriteMode,
 ) -> Result<TakenFiles, SearchFault>
@@ -106,7 +106,7 @@ pub fn files_written(
 
 /// Whether the disk of a letter may be written and has a file of a name: `NotAccessed` and `ReadOnly` as above, else `NotFound` exactly
 /// where it has none.
-pub fn find_written(table: &Table, letter: u8, name: &Name) -> Result<(), SearchFault>
+pub fn find_written(table: &AccessTable, letter: u8, name: &Name) -> Result<(), SearchFault>
     ensures found { OnOk result (IsSome
         (spec.found_shelf (spec.shelf_with (shelves_of table.now) letter name.now))) }
     ensures refused { IfErr result (λ e. spec.shelf_with (shelves_of table.now) letter name.now

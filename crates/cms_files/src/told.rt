@@ -12,7 +12,7 @@ ghost use Rattle.cms_files.specs.Told.{IsFoundAt};
 
 use cms_disk::FileInfo;
 use cms_names::Name;
-use cms_search::{Found, Table};
+use cms_search::{AccessTable, Found};
 
 /// A file of a disk, and what is told of it.
 #[derive(Clone, Copy)]
@@ -23,7 +23,7 @@ pub struct ToldFile {
 }
 
 /// The file of a name on the disk of a letter; none where it isn't there.
-pub fn told_named(table: &Table, letter: u8, name: &Name) -> Option<ToldFile>
+pub fn told_named(table: &AccessTable, letter: u8, name: &Name) -> Option<ToldFile>
     ensures place { option_map (λ f. f.place) result
         ≡ spec.place_named table.now letter name.now }
     ensures told { option_map (λ f. f.info) result ≡ spec.info_named table.now letter name.now }
@@ -38,7 +38,7 @@ pub fn told_named(table: &Table, letter: u8, name: &Name) -> Option<ToldFile>
 }
 
 /// What is told of the file of a name on the disk of a letter; none where it isn't there.
-pub fn info_named(table: &Table, letter: u8, name: &Name) -> Option<FileInfo>
+pub fn info_named(table: &AccessTable, letter: u8, name: &Name) -> Option<FileInfo>
     ensures told { result ≡ spec.info_named table.now letter name.now }
     ensures sound { IfSome result IsFileInfo }
 {
@@ -48,7 +48,7 @@ pub fn info_named(table: &Table, letter: u8, name: &Name) -> Option<FileInfo>
 }
 
 /// What is told of a file that a search found; none where it isn't there.
-pub fn info_found(table: &Table, found: Found) -> Option<FileInfo>
+pub fn info_found(table: &AccessTable, found: Found) -> Option<FileInfo>
     ensures { result ≡ spec.info_found table.now found }
 {
     let disk = table.disk(found.letter)?;
@@ -59,7 +59,7 @@ pub fn info_found(table: &Table, found: Found) -> Option<FileInfo>
 }
 
 /// How many bytes are stored of a file that a search found; none where it isn't there.
-pub fn stored_found(table: &Table, found: Found) -> Option<u32>
+pub fn stored_found(table: &AccessTable, found: Found) -> Option<u32>
     ensures told { result ≡ spec.stored_found table.now found }
     ensures stored { IfSome result (λ bytes. (name : names.Name) (s : Machine)
         → IsFoundAt table.now found name → Shows table.now s

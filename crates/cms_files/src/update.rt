@@ -1,7 +1,7 @@
 // Updates of files.
 ghost use Rattle.std.specs.Prelude.{◌≡◌, true, Ok};
 ghost use Rattle.std.specs.Option.{ForSome};
-ghost use Rattle.cms_edf.specs.Planning.{CanChange, change_of};
+ghost use Rattle.cms_edf.specs.ChangePlans.{CanChange, change_of};
 ghost use Rattle.cms_fields.specs.Moments.{is_moment};
 ghost use Rattle.cms_search.specs.Calls.{Acts, IsUsable, machine_of, spot};
 ghost use Rattle.cms_search.specs.Searches.{item_at};

@@ -19,17 +19,17 @@ use Rattle.cms_model.specs.Sizes.{free_count, map_size, stored_size}
 use Rattle.cms_model.specs.Stands.{Layout, file_of, minidisk_in, opened}
 use Rattle.cms_model.specs.Trees.{bytes_at}
 use Rattle.cms_model.specs.Volumes.{Disk, minidisk_of}
-use Rattle.cms_model.proofs.Changing.{place_changed}
 use Rattle.cms_model.proofs.DirectoryNeed.{place_is_named}
+use Rattle.cms_model.proofs.ListChanges.{place_changed}
 use Rattle.cms_model.proofs.Lookup.{changed_is_found}
 use Rattle.cms_model.proofs.Records.{length_stored, stored_append}
-use Rattle.cms_model.proofs.Renewing.{minidisk_is}
+use Rattle.cms_model.proofs.Renewed.{minidisk_is}
 use Rattle.cms_map.specs.Bits.{free_blocks}
-use Rattle.cms_held.specs.Adding.{AddIsAnswered, need_add}
-use Rattle.cms_held.specs.LawsRenewing.{IsHeldAt}
-use Rattle.cms_held.specs.Opening.{HeldFile, HeldVolume}
-use Rattle.cms_held.specs.Putting.{answer_put, limit_put}
-use Rattle.cms_held.specs.Renewing.{made_at}
+use Rattle.cms_held.specs.Additions.{AddIsAnswered, need_add}
+use Rattle.cms_held.specs.HeldVolumes.{HeldFile, HeldVolume}
+use Rattle.cms_held.specs.LawsRenewals.{IsHeldAt}
+use Rattle.cms_held.specs.Puts.{answer_put, limit_put}
+use Rattle.cms_held.specs.Renewals.{made_at}
 use Rattle.cms_held.proofs.Edits.{at_place, found_at, names_distinct}
 use Rattle.cms_held.proofs.HeldFiles.{opened_has_room, opened_is_held}
 use Rattle.cms_held.proofs.OldBlocks.{old_opens}

@@ -19,7 +19,7 @@ use Rattle.cms_model.specs.Lists.{In, times}
 use Rattle.cms_model.specs.LawsUpdates.{now}
 use Rattle.cms_model.specs.Minidisks.{Minidisk}
 use Rattle.cms_model.specs.Settled.{Write}
-use Rattle.cms_model.specs.Sharing.{MayBeWritten, fresh_count}
+use Rattle.cms_model.specs.SharedTrees.{MayBeWritten, fresh_count}
 use Rattle.cms_model.specs.Sizes.{levels, map_size}
 use Rattle.cms_model.specs.Stands.{Kept, Layout, file_blocks, file_of, layout_blocks, minidisk_in}
 use Rattle.cms_model.specs.Records.{records_of, stored}
@@ -32,29 +32,29 @@ use Rattle.cms_model.proofs.VolumeFrame.{bytes_keep}
 use Rattle.cms_map.specs.Bits.{free_blocks}
 use Rattle.cms_tree.specs.declared.types.Mark.{Mark}
 use Rattle.cms_tree.specs.Climbs.{AreOwn, numbers_behind}
-use Rattle.cms_tree.proofs.Building.{fan_wide}
-use Rattle.cms_tree.proofs.Lifting.{some_fan}
+use Rattle.cms_tree.proofs.BuiltTrees.{fan_wide}
+use Rattle.cms_tree.proofs.ClimbBlocks.{some_fan}
 use Rattle.cms_tree.proofs.Own.{in_at, in_drop_at}
-use Rattle.cms_held.specs.Adding.{AddIsCarried, AddIsSmall, IsAddReady, need_add}
-use Rattle.cms_held.specs.Carrying.{IsHeldMinidisk}
+use Rattle.cms_held.specs.Additions.{AddIsCarried, AddIsSmall, IsAddReady, need_add}
 use Rattle.cms_held.specs.Drafts.{Front, draft_writes, own_blocks, stored_on}
-use Rattle.cms_held.specs.Growing.{GrowsHeld, growing, places_behind}
+use Rattle.cms_held.specs.Growths.{GrowsHeld, growing, places_behind}
+use Rattle.cms_held.specs.HeldVolumes.{HeldFile, HeldVolume}
 use Rattle.cms_held.specs.Kept.{IsKeptFile, Keeps}
-use Rattle.cms_held.specs.LawsRenewing.{later_of, writes_of}
-use Rattle.cms_held.specs.Opening.{HeldFile, HeldVolume}
-use Rattle.cms_held.specs.Putting.{answer_put, limit_put}
-use Rattle.cms_held.specs.Renewing.{Edit, blocks_in, made_at, needed}
+use Rattle.cms_held.specs.LawsRenewals.{later_of, writes_of}
+use Rattle.cms_held.specs.MinidiskUpdates.{IsHeldMinidisk}
+use Rattle.cms_held.specs.Puts.{answer_put, limit_put}
+use Rattle.cms_held.specs.Renewals.{Edit, blocks_in, made_at, needed}
 use Rattle.cms_held.specs.Systems.{HasWritten, Systems}
 use Rattle.cms_held.proofs.AddAnswered.{FileAt, add_is_answered, add_made, file_at, more_size, need_parts}
 use Rattle.cms_held.proofs.Carried.{carries_of, renewal_of, update_counted}
 use Rattle.cms_held.proofs.DraftCount.{draft_count}
 use Rattle.cms_held.proofs.Drafted.{fan_is}
 use Rattle.cms_held.proofs.DraftOwn.{part_own}
-use Rattle.cms_held.proofs.Drafting.{none_written}
+use Rattle.cms_held.proofs.DraftBlocks.{none_written}
 use Rattle.cms_held.proofs.Edits.{AtPlace, Moved, at_place, tree_times}
 use Rattle.cms_held.proofs.GrownBlocks.{own_is_fresh}
 use Rattle.cms_held.proofs.GrownEdits.{grow_moves}
-use Rattle.cms_held.proofs.Needing.{writes_need}
+use Rattle.cms_held.proofs.EditNeeds.{writes_need}
 use Rattle.cms_held.proofs.PutCarried.{made, no_limit}
 use Rattle.cms_held.proofs.PutMoves.{at_times}
 use Rattle.cms_held.proofs.SharedBlocks.{fresh_is_counted}

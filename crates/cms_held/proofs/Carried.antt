@@ -16,25 +16,25 @@ use Rattle.cms_model.specs.Stands.{Layout, file_of, minidisk_in, opened}
 use Rattle.cms_model.specs.LawsChanges.{NoneNamed}
 use Rattle.cms_model.specs.LawsUpdates.{now}
 use Rattle.cms_model.specs.Settled.{Write, update, writes}
-use Rattle.cms_model.proofs.Opening.{state_opens}
-use Rattle.cms_model.proofs.Renewing.{minidisk_is}
+use Rattle.cms_model.proofs.OpenedVolumes.{state_opens}
+use Rattle.cms_model.proofs.Renewed.{minidisk_is}
 use Rattle.cms_map.specs.Bits.{free_blocks}
-use Rattle.cms_held.specs.Opening.{HeldVolume, names_in}
+use Rattle.cms_held.specs.HeldVolumes.{HeldVolume, names_in}
 use Rattle.cms_held.specs.Kept.{Keeps}
 use Rattle.cms_held.specs.LawsHeld.{IsFound}
-use Rattle.cms_held.specs.Renewing.{Edit, moved_file, needed, renamed}
-use Rattle.cms_held.specs.LawsRenewing.{IsHeldAt, IsRenewal, later_of, writes_of}
+use Rattle.cms_held.specs.Renewals.{Edit, moved_file, needed, renamed}
+use Rattle.cms_held.specs.LawsRenewals.{IsHeldAt, IsRenewal, later_of, writes_of}
 use Rattle.cms_held.specs.LawsEdits.{Edits, IsEdit, IsAnswered}
-use Rattle.cms_held.specs.Carrying.{Carries, IsEditOf, IsHeldMinidisk, IsReadyFor, LackingIsFull, PlannedIsCarried, UpdateIsSmall, drops, moves, renames, written_count}
+use Rattle.cms_held.specs.MinidiskUpdates.{Carries, IsEditOf, IsHeldMinidisk, IsReadyFor, LackingIsFull, PlannedIsCarried, UpdateIsSmall, drops, moves, renames, written_count}
 use Rattle.cms_held.specs.Systems.{Systems}
-use Rattle.cms_held.proofs.Answering.{edit_is_answered, edit_small, renewed_changed, same_volid}
+use Rattle.cms_held.proofs.Answered.{edit_is_answered, edit_small, renewed_changed, same_volid}
 use Rattle.cms_held.proofs.Centuries.{century_moves}
 use Rattle.cms_held.proofs.Edits.{Moved, beside_count, drop_moves, rename_moves}
 use Rattle.cms_held.proofs.HeldFiles.{opened_is_held, place_is_told}
-use Rattle.cms_held.proofs.Keeping.{front_keeps_held}
+use Rattle.cms_held.proofs.StillHeld.{front_keeps_held}
 use Rattle.cms_held.proofs.OldBlocks.{old_opens}
-use Rattle.cms_held.proofs.Removing.{length-removed}
-use Rattle.cms_held.proofs.Needing.{edit_made, writes_need}
+use Rattle.cms_held.proofs.SwapRemoved.{length-removed}
+use Rattle.cms_held.proofs.EditNeeds.{edit_made, writes_need}
 use Rattle.cms_held.proofs.PlannedWrites.{WritesBlocks, planned_blocks, planned_within, planned_writes, taking, update_renews}
 
 -- ---- the edit of a change

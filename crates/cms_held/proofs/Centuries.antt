@@ -15,14 +15,14 @@ use Rattle.cms_model.specs.Volumes.{Disk}
 use Rattle.cms_model.proofs.Centuries.{moved_is_stamp}
 use Rattle.cms_model.proofs.FileSizes.{passes_from, passing}
 use Rattle.cms_held.specs.HeldTrees.{TreeComes}
+use Rattle.cms_held.specs.HeldVolumes.{HeldFile, HeldVolume}
 use Rattle.cms_held.specs.Kept.{IsKeptFile, Keeps}
 use Rattle.cms_held.specs.LawsEdits.{CenturyEdits}
-use Rattle.cms_held.specs.LawsRenewing.{IsHeldAt}
-use Rattle.cms_held.specs.Opening.{HeldFile, HeldVolume}
-use Rattle.cms_held.specs.Renewing.{entries_held, moved_entry, moved_file, moving}
+use Rattle.cms_held.specs.LawsRenewals.{IsHeldAt}
+use Rattle.cms_held.specs.Renewals.{entries_held, moved_entry, moved_file, moving}
 use Rattle.cms_held.specs.Written.{ReadsBack}
 use Rattle.cms_held.proofs.Edits.{Beside, Moved, Old, beside_count, come_all, files_old, moved, no_times, pass_all, trees_of}
-use Rattle.cms_held.proofs.Standing.{comes_moved}
+use Rattle.cms_held.proofs.TreesStay.{comes_moved}
 
 -- a file of a volume with such a stamp
 abbrev kept_moved : ℕ → Kept → Kept

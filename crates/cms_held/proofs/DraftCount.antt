@@ -10,11 +10,11 @@ use Rattle.cms_tree.specs.Climbs.{climb_writes_on, numbers_behind}
 use Rattle.cms_tree.specs.Kept.{Kept}
 use Rattle.cms_tree.specs.Levels.{over_count}
 use Rattle.cms_tree.specs.Tiers.{complete_from, node_on, put_node}
+use Rattle.cms_tree.proofs.ClimbSteps.{over_all}
 use Rattle.cms_tree.proofs.Counted.{behind_count, next_places}
-use Rattle.cms_tree.proofs.Stepping.{over_all}
 use Rattle.cms_tree.proofs.Totals.{places}
 use Rattle.cms_held.specs.Drafts.{data_write, draft_writes, own_blocks}
-use Rattle.cms_held.proofs.Drafting.{next_written, none_written}
+use Rattle.cms_held.proofs.DraftBlocks.{next_written, none_written}
 
 -- the pointer blocks that are complete with the first leaves
 abbrev ended : ℕ → ℕ → List ℕ → ℕ → ℕ

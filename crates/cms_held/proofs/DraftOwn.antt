@@ -13,10 +13,10 @@ use Rattle.cms_tree.specs.Tiers.{AllKeep, lowest, node_on}
 use Rattle.cms_tree.specs.Climbs.{AreOwn, numbers_behind}
 use Rattle.cms_tree.proofs.Own.{in_drop}
 use Rattle.cms_tree.proofs.Behind.{behind_among, completed_long, none_kept, nothing_keeps}
-use Rattle.cms_tree.proofs.Lifting.{some_fan}
-use Rattle.cms_tree.proofs.Stepping.{over_all}
+use Rattle.cms_tree.proofs.ClimbBlocks.{some_fan}
+use Rattle.cms_tree.proofs.ClimbSteps.{over_all}
 use Rattle.cms_held.specs.Drafts.{data_block, draft_writes, own_blocks}
-use Rattle.cms_held.proofs.Drafting.{Among, among_right, in_draft, kind_of, IsData, IsNode}
+use Rattle.cms_held.proofs.DraftBlocks.{Among, among_right, in_draft, kind_of, IsData, IsNode}
 
 data_long : (bsize k : ℕ) (bytes : List ℕ) → length (data_block bsize bytes k) ≡ bsize
 data_long bsize k bytes =

@@ -16,10 +16,10 @@ use Rattle.cms_model.proofs.Quotients.{up_spec}
 use Rattle.cms_model.proofs.Records.{cut_stored, read_stored}
 use Rattle.cms_model.proofs.TreeFrame.{tree_keeps}
 use Rattle.cms_tree.specs.Builds.{root_of}
-use Rattle.cms_tree.proofs.Building.{built_is_tree}
+use Rattle.cms_tree.proofs.BuiltTrees.{built_is_tree}
 use Rattle.cms_held.specs.Drafts.{filled, data_block, HasData, DraftHolds}
 use Rattle.cms_held.specs.SharedTrees.{IsStanding}
-use Rattle.cms_held.proofs.Standing.{built_stands}
+use Rattle.cms_held.proofs.TreesStay.{built_stands}
 
 replicate_both : (a b : ℕ) → ◌++◌ {A = ℕ} (replicate a 0) (replicate b 0) ≡ replicate (a + b) 0
 replicate_both zero b = let e : 0 + b ≡ b = omega arith in rw e refl

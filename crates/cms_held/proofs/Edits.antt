@@ -17,21 +17,21 @@ use Rattle.cms_model.specs.Changes.{Change, Drop, Rename, changed_files, drop_fi
 use Rattle.cms_model.specs.Stands.{Kept, HoldsFile, HoldsFiles, Layout, NoEntryNamed, HaveNames, entries_in, mets_in, records_in, file_blocks, file_of, layout_blocks}
 use Rattle.cms_model.specs.LawsChanges.{NoneNamed, AreDistinct, IsFree, IsPlace}
 use Rattle.cms_model.specs.LawsUpdates.{now}
-use Rattle.cms_model.proofs.Changing.{place_changed, stay_distinct}
 use Rattle.cms_model.proofs.EntriesRead.{passes_so}
 use Rattle.cms_model.proofs.FileSizes.{passes_from, passing}
+use Rattle.cms_model.proofs.ListChanges.{place_changed, stay_distinct}
 use Rattle.cms_model.proofs.Members.{In-left, In-right}
 use Rattle.cms_model.proofs.Repeats.{times_append}
-use Rattle.cms_held.specs.Opening.{HeldFile, HeldVolume}
+use Rattle.cms_held.specs.HeldVolumes.{HeldFile, HeldVolume}
 use Rattle.cms_held.specs.Kept.{IsKeptFile, Keeps}
 use Rattle.cms_held.specs.Written.{ReadsBack}
 use Rattle.cms_held.specs.HeldAs.{AreHeld, IsHeldFile}
-use Rattle.cms_held.specs.Renewing.{Edit, blocks_in, dropping, entries_held, renamed, renaming}
-use Rattle.cms_held.specs.LawsRenewing.{ComesFrom, IsHeldAt, LeavesFiles}
+use Rattle.cms_held.specs.Renewals.{Edit, blocks_in, dropping, entries_held, renamed, renaming}
+use Rattle.cms_held.specs.LawsRenewals.{ComesFrom, IsHeldAt, LeavesFiles}
 use Rattle.cms_held.specs.LawsEdits.{DropEdits, RenameEdits}
-use Rattle.cms_held.proofs.Removing.{All-removed, length-removed, map-removed}
+use Rattle.cms_held.proofs.SwapRemoved.{All-removed, length-removed, map-removed}
 use Rattle.cms_held.specs.HeldTrees.{TreeComes}
-use Rattle.cms_held.proofs.Standing.{comes_renamed, trees_old}
+use Rattle.cms_held.proofs.TreesStay.{comes_renamed, trees_old}
 
 -- ---- a place among files
 

@@ -12,8 +12,8 @@ use Rattle.cms_model.specs.Volumes.{as_read, blamed, entries_of}
 use Rattle.cms_model.specs.declared.fault.OpenFault.{OpenFault}
 use Rattle.cms_model.specs.declared.fault.OpenFault.TheVariants as failed
 use Rattle.cms_model.proofs.Results.{bind_then, ok_same}
-use Rattle.cms_held.specs.Opening.{HeldFile}
-use Rattle.cms_held.specs.Renewing.{dropping, entries_held}
+use Rattle.cms_held.specs.HeldVolumes.{HeldFile}
+use Rattle.cms_held.specs.Renewals.{dropping, entries_held}
 use Rattle.cms_model.specs.DirectoryParts.{all_entries, blocks_with, directory_count, entry_block}
 use Rattle.cms_model.proofs.DirectoryParts.{all_blocks, blocks_ascend, blocks_may, blocks_within, entry_within, first_made, in_blocks, parts, some_blocks}
 use Rattle.cms_held.specs.SharedBlocks.{AreLong}

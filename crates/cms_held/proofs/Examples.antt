@@ -7,7 +7,7 @@ use Rattle.cms_fields.specs.declared.label.Label.{Label}
 use Rattle.cms_map.specs.Bits.{free_from}
 use Rattle.cms_model.specs.Systems.{SystemFile}
 use Rattle.cms_held.specs.Marks.{mark_of, start_of, starts_from}
-use Rattle.cms_held.specs.Renewing.{label_for}
+use Rattle.cms_held.specs.Renewals.{label_for}
 use Rattle.cms_held.specs.Systems.{system_entry}
 use Rattle.cms_held.specs.Written.{directory_name, map_name}
 

@@ -9,17 +9,17 @@ use Rattle.std.proofs.lemmas.List.{drop-drop, get_or-drop, get_or-take, get_or_a
 use Rattle.cms_fields.specs.Numbers.{up}
 use Rattle.cms_model.specs.LawsTrees.{cell_bytes}
 use Rattle.cms_model.specs.Settled.{Write}
-use Rattle.cms_model.specs.Sharing.{is_kept}
+use Rattle.cms_model.specs.SharedTrees.{is_kept}
 use Rattle.cms_model.specs.SharedTiers.{group}
 use Rattle.cms_model.specs.Sizes.{levels, pointer_count, pointers_to}
 use Rattle.cms_model.proofs.Cuts.{get_or_cut, length_cut}
 use Rattle.cms_model.proofs.Quotients.{up_up}
 use Rattle.cms_tree.specs.Builds.{Child, all_over, cell_of, level_over, marked, node_at, node_bytes, parents}
 use Rattle.cms_tree.specs.Paths.{fresh_places, levels_of, places_on, places_to}
-use Rattle.cms_tree.proofs.Building.{blocks-parents, blocks_of, drop-blocks, length-blocks, take-blocks}
-use Rattle.cms_tree.proofs.Pathing.{count_first, left_count}
-use Rattle.cms_tree.proofs.Rising.{up_one}
-use Rattle.cms_held.specs.Opening.{HeldTree}
+use Rattle.cms_tree.proofs.BuiltTrees.{blocks-parents, blocks_of, drop-blocks, length-blocks, take-blocks}
+use Rattle.cms_tree.proofs.LevelsBuilt.{up_one}
+use Rattle.cms_tree.proofs.Paths.{count_first, left_count}
+use Rattle.cms_held.specs.HeldVolumes.{HeldTree}
 use Rattle.cms_held.specs.SharedWrites.{fresh_writes, shared_node_writes, tier_writes}
 use Rattle.cms_held.specs.Systems.{leaf_writes, nodes_at}
 

@@ -12,17 +12,17 @@ use Rattle.cms_tree.specs.Builds.{Child, root_of}
 use Rattle.cms_tree.specs.Paths.{PointFresh, levels_of, path_levels}
 use Rattle.cms_tree.specs.Resumes.{kept_levels, root_child}
 use Rattle.cms_tree.specs.Tiers.{lowest, node_on, put_node}
-use Rattle.cms_tree.proofs.Building.{fan_wide}
-use Rattle.cms_tree.proofs.Pathing.{path_is_shared, power_low}
-use Rattle.cms_tree.proofs.Resuming.{length-levels_of}
-use Rattle.cms_tree.proofs.Stepping.{over_all}
+use Rattle.cms_tree.proofs.BuiltTrees.{fan_wide}
+use Rattle.cms_tree.proofs.ClimbSteps.{over_all}
+use Rattle.cms_tree.proofs.Paths.{path_is_shared, power_low}
+use Rattle.cms_tree.proofs.Resumes.{length-levels_of}
 use Rattle.cms_held.specs.Drafts.{draft_writes}
-use Rattle.cms_held.specs.Growing.{GrownIsShared, KeepsFront, form_on, last_leaf, places_behind}
-use Rattle.cms_held.specs.Allotting.{KeepsTree}
-use Rattle.cms_held.specs.Opening.{HeldTree}
+use Rattle.cms_held.specs.Growths.{GrownIsShared, KeepsFront, form_on, last_leaf, places_behind}
+use Rattle.cms_held.specs.Allotments.{KeepsTree}
+use Rattle.cms_held.specs.HeldVolumes.{HeldTree}
 use Rattle.cms_held.specs.SharedBlocks.{levels_in}
+use Rattle.cms_held.proofs.DraftBlocks.{has_among, node_written}
 use Rattle.cms_held.proofs.DraftOwn.{fits_in}
-use Rattle.cms_held.proofs.Drafting.{has_among, node_written}
 use Rattle.cms_held.proofs.GrownLevels.{Growing, GrowsAt, grown_points}
 use Rattle.cms_model.proofs.WrittenBlocks.{leaf_written}
 use Rattle.cms_held.proofs.SharedWrites.{paths_back}

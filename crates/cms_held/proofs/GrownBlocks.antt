@@ -5,19 +5,19 @@ use Rattle.std.proofs.lemmas.List.{length-drop, length-take-le}
 use Rattle.std.proofs.Math.Nat.{div-div-eq-div-mul, div-mul-le_self, div-one, one-le-pow, pow-suc, pow-zero}
 use Rattle.cms_fields.specs.Numbers.{up}
 use Rattle.cms_model.specs.Lists.{In}
-use Rattle.cms_model.specs.Sharing.{is_kept}
+use Rattle.cms_model.specs.SharedTrees.{is_kept}
 use Rattle.cms_model.specs.SharedTimes.{came, without}
 use Rattle.cms_model.specs.Sizes.{levels}
 use Rattle.cms_model.proofs.Quotients.{up_spec, up_up}
 use Rattle.cms_model.proofs.Shapes.{levels_needs}
-use Rattle.cms_model.proofs.Sharing.{behind_is_written}
+use Rattle.cms_model.proofs.SharedTrees.{behind_is_written}
 use Rattle.cms_model.proofs.SharedTiers.{never_kept, up_one}
 use Rattle.cms_tree.specs.Climbs.{numbers_behind}
 use Rattle.cms_tree.specs.Levels.{over_count}
 use Rattle.cms_tree.specs.Paths.{levels_of}
-use Rattle.cms_tree.proofs.Resuming.{kept_low, length-levels_of}
-use Rattle.cms_tree.proofs.Stepping.{over_all}
-use Rattle.cms_held.specs.Growing.{OwnIsFresh, places_behind}
+use Rattle.cms_tree.proofs.ClimbSteps.{over_all}
+use Rattle.cms_tree.proofs.Resumes.{kept_low, length-levels_of}
+use Rattle.cms_held.specs.Growths.{OwnIsFresh, places_behind}
 use Rattle.cms_held.specs.SharedBlocks.{levels_in}
 use Rattle.cms_held.proofs.Grown.{behind_all, behind_low}
 use Rattle.cms_held.proofs.GrownTrees.{below_up}

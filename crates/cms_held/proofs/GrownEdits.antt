@@ -20,7 +20,7 @@ use Rattle.cms_model.specs.Stands.{HoldsFile, Kept, Layout, file_blocks, file_of
 use Rattle.cms_model.specs.Sizes.{levels}
 use Rattle.cms_model.specs.Trees.{Image, form_of}
 use Rattle.cms_model.specs.Volumes.{as_read, length_read}
-use Rattle.cms_model.proofs.Changing.{place_changed}
+use Rattle.cms_model.proofs.ListChanges.{place_changed}
 use Rattle.cms_model.proofs.EntriesRead.{length_so, passes_so}
 use Rattle.cms_model.proofs.Members.{In-left, In-right}
 use Rattle.cms_model.proofs.Records.{length_stored_fixed, longest_both, stored_append}
@@ -29,16 +29,16 @@ use Rattle.cms_model.proofs.Repeats.{held, held_from, in_from, in_held, times_ap
 use Rattle.cms_tree.specs.declared.types.Mark.{Mark}
 use Rattle.cms_tree.specs.Builds.{root_of}
 use Rattle.cms_tree.specs.Climbs.{numbers_behind}
-use Rattle.cms_tree.proofs.Building.{fan_wide}
+use Rattle.cms_tree.proofs.BuiltTrees.{fan_wide}
 use Rattle.cms_tree.proofs.Own.{in_at, in_drop_at}
 use Rattle.cms_held.specs.Drafts.{Drafted, Front, own_blocks, stored_on}
-use Rattle.cms_held.specs.Growing.{GrowEdits, GrowsFile, GrowsHeld, IsGrown, form_on, growing, length_with, places_behind}
-use Rattle.cms_held.specs.Opening.{HeldFile, HeldVolume, size_of}
+use Rattle.cms_held.specs.Growths.{GrowEdits, GrowsFile, GrowsHeld, IsGrown, form_on, growing, length_with, places_behind}
+use Rattle.cms_held.specs.HeldVolumes.{HeldFile, HeldVolume, size_of}
 use Rattle.cms_held.specs.HeldTrees.{TreeComes}
 use Rattle.cms_held.specs.Kept.{IsKeptFile, Keeps}
-use Rattle.cms_held.specs.LawsRenewing.{IsHeldAt}
-use Rattle.cms_held.specs.Renewing.{Edit, blocks_in}
-use Rattle.cms_held.specs.Allotting.{KeepsTree}
+use Rattle.cms_held.specs.LawsRenewals.{IsHeldAt}
+use Rattle.cms_held.specs.Renewals.{Edit, blocks_in}
+use Rattle.cms_held.specs.Allotments.{KeepsTree}
 use Rattle.cms_held.specs.SharedTrees.{HasShape}
 use Rattle.cms_held.proofs.Edits.{AtPlace, Beside, FoundAt, Is, Moved, Old, at_place, beside_count, beside_set, come_all, files_old, found_at, moved, names_distinct, pass_all, trees_of}
 use Rattle.cms_held.proofs.Edits as edits

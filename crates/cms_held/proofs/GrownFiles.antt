@@ -19,17 +19,17 @@ use Rattle.cms_model.proofs.Quotients.{up_spec}
 use Rattle.cms_model.proofs.Records.{cut_stored}
 use Rattle.cms_model.proofs.TreeFrame.{tree_keeps}
 use Rattle.cms_tree.specs.Builds.{root_of}
-use Rattle.cms_tree.proofs.Building.{fan_wide}
+use Rattle.cms_tree.proofs.BuiltTrees.{fan_wide}
 use Rattle.cms_tree.proofs.Own.{in_at}
-use Rattle.cms_records.proofs.Extending.{varying_extends}
+use Rattle.cms_records.proofs.RecordsBehind.{varying_extends}
 use Rattle.cms_held.specs.Drafts.{HasData, data_block, data_write, draft_writes, filled, stored_on}
-use Rattle.cms_held.specs.Growing.{GrownHolds, form_on, places_behind}
+use Rattle.cms_held.specs.Growths.{GrownHolds, form_on, places_behind}
 use Rattle.cms_held.specs.SharedBlocks.{AreLong}
-use Rattle.cms_held.specs.Opening.{size_of}
+use Rattle.cms_held.specs.HeldVolumes.{size_of}
 use Rattle.cms_held.specs.SharedTrees.{IsStanding, StandsByLevels}
 use Rattle.cms_held.proofs.BlockBytes.{all_long, leaf_long, piece_by_place}
+use Rattle.cms_held.proofs.DraftBlocks.{data_among, has_among}
 use Rattle.cms_held.proofs.Drafted.{data_bytes, fan_is}
-use Rattle.cms_held.proofs.Drafting.{data_among, has_among}
 use Rattle.cms_held.proofs.Grown.{grown_is_shared}
 use Rattle.cms_held.proofs.SharedTrees.{levels_are_read, shared_tree_stands}
 

@@ -15,11 +15,11 @@ use Rattle.cms_tree.specs.Kept.{Kept}
 use Rattle.cms_tree.specs.Levels.{over_count}
 use Rattle.cms_tree.specs.Paths.{levels_of}
 use Rattle.cms_tree.specs.Resumes.{kept_front, kept_levels, partly_above, place_in, place_of, root_child}
-use Rattle.cms_tree.proofs.Lifting.{group_within}
+use Rattle.cms_tree.proofs.ClimbBlocks.{group_within}
+use Rattle.cms_tree.proofs.ClimbSteps.{over_all}
 use Rattle.cms_tree.proofs.Own.{in_at, in_drop, in_take}
-use Rattle.cms_tree.proofs.Resuming.{kept_within}
-use Rattle.cms_tree.proofs.Stepping.{over_all}
-use Rattle.cms_held.specs.Growing.{FrontStays, last_leaf}
+use Rattle.cms_tree.proofs.Resumes.{kept_within}
+use Rattle.cms_held.specs.Growths.{FrontStays, last_leaf}
 
 -- ---- levels that two images have alike
 

@@ -9,12 +9,12 @@ use Rattle.cms_fields.specs.Numbers.{up}
 use Rattle.cms_model.specs.LawsTrees.{cell_bytes}
 use Rattle.cms_model.specs.Lists.{In}
 use Rattle.cms_model.specs.ByLevels.{Heaped}
-use Rattle.cms_model.specs.Sharing.{fresh_on, is_kept}
+use Rattle.cms_model.specs.SharedTrees.{fresh_on, is_kept}
 use Rattle.cms_model.specs.SharedTiers.{Names, group}
 use Rattle.cms_model.specs.Trees.{Image, pointers}
 use Rattle.cms_model.proofs.Quotients.{up_spec, up_up}
 use Rattle.cms_model.proofs.SharedTiers.{points_tier}
-use Rattle.cms_model.proofs.Sharing.{behind_is_written}
+use Rattle.cms_model.proofs.SharedTrees.{behind_is_written}
 use Rattle.cms_tree.specs.declared.types.Mark.{Mark}
 use Rattle.cms_tree.specs.Builds.{Child, cell_of}
 use Rattle.cms_tree.specs.Levels.{over_count}
@@ -23,11 +23,11 @@ use Rattle.cms_tree.specs.Paths.{PointFresh, levels_of, numbered, paths}
 use Rattle.cms_tree.specs.Resumes.{kept_front, kept_levels, partly_above, tiers_above}
 use Rattle.cms_tree.specs.Tiers.{AllKeep, Tier, complete_from, ends_group, node_in, pointing, tier_above}
 use Rattle.cms_tree.proofs.Behind.{complete_within}
-use Rattle.cms_tree.proofs.Building.{fits_cell}
-use Rattle.cms_tree.proofs.Lifting.{front_at, group_within}
-use Rattle.cms_tree.proofs.Pathing.{get-numbered, length-numbered}
-use Rattle.cms_tree.proofs.Resuming.{kept_low, kept_within}
-use Rattle.cms_held.specs.Growing.{form_on}
+use Rattle.cms_tree.proofs.BuiltTrees.{fits_cell}
+use Rattle.cms_tree.proofs.ClimbBlocks.{front_at, group_within}
+use Rattle.cms_tree.proofs.Paths.{get-numbered, length-numbered}
+use Rattle.cms_tree.proofs.Resumes.{kept_low, kept_within}
+use Rattle.cms_held.specs.Growths.{form_on}
 use Rattle.cms_held.proofs.GrownTrees.{LastOf, Word, below_up, group_front, last_in, last_of, names_whole, one_cell, pointers_front, same_front}
 
 -- what is known of the whole: the data blocks from a place on are written, those before it are kept

@@ -10,9 +10,9 @@ use Rattle.cms_names.specs.declared.name.Format.TheVariants.{V}
 use Rattle.cms_model.specs.Lists.{In}
 use Rattle.cms_model.specs.Records.{stored, with_length}
 use Rattle.cms_model.proofs.Records.{length-with_length, stored_append}
-use Rattle.cms_tree.proofs.Lifting.{div_mono}
+use Rattle.cms_tree.proofs.ClimbBlocks.{div_mono}
 use Rattle.cms_held.specs.Drafts.{starts_on, stored_on}
-use Rattle.cms_held.specs.Growing.{GrownStarts}
+use Rattle.cms_held.specs.Growths.{GrownStarts}
 use Rattle.cms_held.specs.Marks.{mark_of, nowhere, starts_from}
 
 -- ---- places

@@ -20,9 +20,9 @@ use Rattle.cms_tree.specs.declared.types.Mark.{Mark}
 use Rattle.cms_tree.specs.Builds.{Child, cell_of}
 use Rattle.cms_tree.specs.Kept.{Kept}
 use Rattle.cms_tree.specs.Tiers.{Tier, behind_kept, cells_from, ends_group, pointing, tier_mark}
-use Rattle.cms_tree.proofs.Building.{fits_cell}
-use Rattle.cms_tree.proofs.Filling.{length-cell}
-use Rattle.cms_tree.proofs.Lifting.{div_mono, front_at}
+use Rattle.cms_tree.proofs.BuiltTrees.{fits_cell}
+use Rattle.cms_tree.proofs.ClimbBlocks.{div_mono, front_at}
+use Rattle.cms_tree.proofs.FilledBlocks.{length-cell}
 
 abbrev pub Word : ℕ → Type 0
 Word n = n < 2 ^ 32

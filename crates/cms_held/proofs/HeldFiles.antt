@@ -26,16 +26,16 @@ use Rattle.cms_model.specs.LawsRecords.{AreBytes}
 use Rattle.cms_model.specs.LawsSizes.{IsWhole, unmarked_count}
 use Rattle.cms_model.specs.declared.fault.VarFault.TheVariants.{Zero, PastEnd, Left}
 use Rattle.cms_model.specs.LawsChanges.{NoneNamed, IsPlace}
-use Rattle.cms_model.proofs.Changing.{names_told, name_differs}
+use Rattle.cms_model.proofs.ListChanges.{names_told, name_differs}
 use Rattle.cms_model.proofs.FilesRead.{IsRead, each_read}
 use Rattle.cms_model.proofs.FileSizes.{EntryFits, AllFit, Counted, file_of, entries_fit, are_cut, is_filled}
 use Rattle.cms_model.proofs.InOrder.{in_order}
 use Rattle.cms_model.proofs.MinidiskSizes.{blocks_are_shared}
-use Rattle.cms_model.proofs.Opening.{open_ok}
+use Rattle.cms_model.proofs.OpenedVolumes.{open_ok}
 use Rattle.cms_model.proofs.Cuts.{length_cut}
 use Rattle.cms_model.proofs.Records.{fixed_cut, varying_read}
 use Rattle.cms_model.proofs.Results.{ok_same, want_ok, bind_then}
-use Rattle.cms_held.specs.Opening.{HeldFile, names_in, size_of}
+use Rattle.cms_held.specs.HeldVolumes.{HeldFile, names_in, size_of}
 use Rattle.cms_held.specs.HeldAs.{IsHeldFile, AreHeld}
 use Rattle.cms_held.specs.Kept.{IsKeptFile}
 use Rattle.cms_held.specs.Written.{ReadsBack}

@@ -2,9 +2,9 @@
 use Rattle.cms_journal.specs.Journal.{Journal}
 use Rattle.cms_model.specs.LawsUpdates.{now}
 use Rattle.cms_model.specs.Stands.{Layout}
-use Rattle.cms_held.specs.LawsRenewing.{IsHeldAt}
-use Rattle.cms_held.specs.Opening.{HeldVolume}
-use Rattle.cms_held.specs.SharedRenewing.{HasLevels}
+use Rattle.cms_held.specs.HeldVolumes.{HeldVolume}
+use Rattle.cms_held.specs.LawsRenewals.{IsHeldAt}
+use Rattle.cms_held.specs.SharedRenewals.{HasLevels}
 
 pub held_levels : (j : Journal) (v : HeldVolume) (old : Layout) → IsHeldAt j v old → HasLevels v (now j v.unit)
 held_levels j v old x = record {

@@ -11,12 +11,12 @@ use Rattle.cms_model.specs.Records.{records_of}
 use Rattle.cms_model.specs.Trees.{Image, Form, Met, none_met, joined, tree, children, pointers, form_of, bytes_at}
 use Rattle.cms_model.specs.Volumes.{as_read, blamed, file_trees, contents_in, holder_of}
 use Rattle.cms_model.specs.declared.fault.OpenFault.TheVariants as failed
-use Rattle.cms_model.proofs.Opening.{open_ok}
+use Rattle.cms_model.proofs.OpenedVolumes.{open_ok}
 use Rattle.cms_model.proofs.Repeats.{times_append}
 use Rattle.cms_model.proofs.Results.{ok_same, bind_then}
 use Rattle.cms_model.proofs.TreeFrame.{Walk, leaf_met, under, leaf_then, node_then}
 use Rattle.cms_tree.specs.Walks.{nodes}
-use Rattle.cms_held.specs.Opening.{held_files, held_of}
+use Rattle.cms_held.specs.HeldVolumes.{held_files, held_of}
 use Rattle.cms_held.specs.HeldAs.{AreHeld, OpenedHasHeld}
 
 -- a tree's blocks are these pointer blocks and its data blocks

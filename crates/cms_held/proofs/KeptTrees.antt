@@ -5,7 +5,7 @@ use Rattle.std.proofs.lemmas.Bool.{cases_Bool, cases_lt}
 use Rattle.std.proofs.lemmas.List.{take_all}
 use Rattle.cms_fields.specs.Numbers.{up}
 use Rattle.cms_model.specs.Lists.{In, holds, times}
-use Rattle.cms_model.specs.Sharing.{fresh_on, is_kept, MayBeWritten}
+use Rattle.cms_model.specs.SharedTrees.{fresh_on, is_kept, MayBeWritten}
 use Rattle.cms_model.specs.SharedTimes.{came, gone, without}
 use Rattle.cms_model.specs.Sizes.{levels, pointer_count}
 use Rattle.cms_model.specs.Trees.{Form, Image}
@@ -14,14 +14,14 @@ use Rattle.cms_model.proofs.Repeats.{in_from, in_held, times_append}
 use Rattle.cms_model.proofs.SharedTimes.{leaves_times, shared_times}
 use Rattle.cms_tree.specs.Paths.{levels_of, numbered, path_levels, paths}
 use Rattle.cms_tree.proofs.Own.{in_at}
-use Rattle.cms_tree.proofs.Pathing.{path_is_whole, path_takes_first}
-use Rattle.cms_held.specs.Opening.{HeldTree}
+use Rattle.cms_tree.proofs.Paths.{path_is_whole, path_takes_first}
+use Rattle.cms_held.specs.HeldVolumes.{HeldTree}
 use Rattle.cms_held.specs.SharedBlocks.{fresh_of, levels_in, released_of}
 use Rattle.cms_held.specs.SharedTrees.{HasShape, SharesTree, StandsByLevels}
 use Rattle.cms_held.proofs.MapShares.{in_drop, in_levels}
 use Rattle.cms_held.proofs.SharedTrees.{nodes_joined}
 use Rattle.cms_held.proofs.SharedWrites.{paths_back}
-use Rattle.cms_held.specs.Allotting.{KeepsTree}
+use Rattle.cms_held.specs.Allotments.{KeepsTree}
 use Rattle.cms_model.proofs.WrittenBlocks.{leaf_written}
 
 clash : true ≡ false → ⊥

@@ -1,8 +1,8 @@
 mod Examples
-pub mod Removing
+pub mod SwapRemoved
 pub mod HeldFiles
 pub mod Drafted
-pub mod Drafting
+pub mod DraftBlocks
 pub mod HeldTrees
 pub mod MapMarks
 pub mod WritesPut
@@ -14,10 +14,10 @@ pub mod PiecesWritten
 pub mod SystemsRead
 pub mod Edits
 pub mod Centuries
-pub mod Answering
-pub mod Allotting
-pub mod Relabelling
-pub mod Keeping
+pub mod Answered
+pub mod Allotted
+pub mod Relabelled
+pub mod StillHeld
 pub mod Carried
 pub mod WritesLong
 pub mod EntryBytes
@@ -49,9 +49,9 @@ pub mod WritesAside
 pub mod HeldLevels
 pub mod FreshNodes
 pub mod PlannedWrites
-pub mod Needing
+pub mod EditNeeds
 pub mod WholeWrites
-pub mod Standing
+pub mod TreesStay
 pub mod OpenedTrees
 pub mod GrownTrees
 pub mod GrownLevels

@@ -27,20 +27,20 @@ use Rattle.cms_model.specs.LawsSizes.{IsWhole}
 use Rattle.cms_journal.specs.declared.event.Event.{Event}
 use Rattle.cms_model.specs.LawsUpdates.{AreWithin, HasEither, IsFront, IsWiped, Makes, PutsBlocks, after, now, put_block, put_blocks, to_label, with_label}
 use Rattle.cms_model.proofs.Cuts.{length_cut}
-use Rattle.cms_model.proofs.Opening.{state_opens}
-use Rattle.cms_model.proofs.Putting.{update_is_put}
+use Rattle.cms_model.proofs.OpenedVolumes.{state_opens}
 use Rattle.cms_model.proofs.Quotients.{up_below, up_some, up_unique}
-use Rattle.cms_model.proofs.Renewing.{minidisk_is}
+use Rattle.cms_model.proofs.Renewed.{minidisk_is}
 use Rattle.cms_model.proofs.Repeats.{bit, hit, miss, held_from, times_append}
-use Rattle.cms_model.proofs.Standing.{stands_opens}
-use Rattle.cms_model.proofs.Wiping.{keeps_wiped, make_is_whole}
+use Rattle.cms_model.proofs.Stands.{stands_opens}
+use Rattle.cms_model.proofs.Wipes.{keeps_wiped, make_is_whole}
+use Rattle.cms_model.proofs.WritesPut.{update_is_put}
 use Rattle.cms_map.specs.Bits.{bytes_from, HasFixed}
 use Rattle.cms_tree.specs.Builds.{node_bytes, nodes_over}
-use Rattle.cms_held.specs.Carrying.{IsHeldMinidisk}
+use Rattle.cms_held.specs.EmptyVolumes.{MakePlan, EmptyIsMade, EmptyIsPlaced, IsEmptyVolume, IsReadyUnit, empty_label, first_used, made_minidisk, made_volume, made_writes}
 use Rattle.cms_held.specs.HeldTrees.{FileStands}
+use Rattle.cms_held.specs.HeldVolumes.{HeldFile, HeldTree}
 use Rattle.cms_held.specs.Kept.{IsKept, IsKeptFile}
-use Rattle.cms_held.specs.Making.{Making, EmptyIsMade, EmptyIsPlaced, IsEmptyVolume, IsReadyUnit, empty_label, first_used, made_minidisk, made_volume, made_writes}
-use Rattle.cms_held.specs.Opening.{HeldFile, HeldTree}
+use Rattle.cms_held.specs.MinidiskUpdates.{IsHeldMinidisk}
 use Rattle.cms_held.specs.Systems.{Systems, HasWritten, IsLaidOut, IsTree, ReadsSystems, SaysBits, block_writes, directory_bytes_of, directory_pieces, map_pieces, node_writes, directory_file, file_at, map_file, system_entry, whole_writes}
 use Rattle.cms_held.specs.Written.{ReadsBack, directory_name, file_entries, map_name}
 use Rattle.cms_held.proofs.NewMap.{bit_free, bit_used, first_fixed, length_first, map_fits, nodes_none, none_lost, row_all, row_has, row_once, row_within}
@@ -53,11 +53,11 @@ use Rattle.cms_held.proofs.WritesPut.{apart_of, blocks_written, has_written, put
 -- ---- the plan
 
 -- what is written of it, whole
-abbrev pub whole_made : Making → List Write
+abbrev pub whole_made : MakePlan → List Write
 whole_made m = whole_writes m.disk.bsize m.systems
 
 -- the numbers of an empty volume
-pub record Facts (m : Making) : Type 0 where
+pub record Facts (m : MakePlan) : Type 0 where
   pub origin : m.systems.label.origin ≡ 4
   pub blocks : m.systems.label.blocks ≡ m.disk.count
   pub low : 512 ≤ m.disk.bsize
@@ -66,7 +66,7 @@ pub record Facts (m : Making) : Type 0 where
   pub leaves : m.systems.directory.leaves ≡ 4 ∷ []
   pub pointers : m.systems.directory.pointers ≡ []
 
-pub facts : {volid : List ℕ} {stamp : Stamp} (m : Making) → IsEmptyVolume m volid stamp → Facts m
+pub facts : {volid : List ℕ} {stamp : Stamp} (m : MakePlan) → IsEmptyVolume m volid stamp → Facts m
 facts m e = record {
   origin = ap (λ (l : Label). l.origin) e.label;
   blocks = ap (λ (l : Label). l.blocks) e.label;
@@ -78,7 +78,7 @@ facts m e = record {
 }
 
 -- the label's bytes spell it, and fill its block
-record LabelFacts (m : Making) : Type 0 where
+record LabelFacts (m : MakePlan) : Type 0 where
   spells : label_of m.disk.bsize m.disk.count m.systems.label_bytes ≡ Ok m.systems.label
   long : length m.systems.label_bytes ≡ m.disk.bsize
 
@@ -86,7 +86,7 @@ is_four : is_origin 4 ≡ true
 unfolding is_origin
 is_four = refl
 
-label_facts : {volid : List ℕ} {stamp : Stamp} (m : Making) → IsEmptyVolume m volid stamp → LabelFacts m
+label_facts : {volid : List ℕ} {stamp : Stamp} (m : MakePlan) → IsEmptyVolume m volid stamp → LabelFacts m
 label_facts {volid = volid} {stamp = stamp} m e =
     let f = facts m e in
     let low = f.low in let high = f.high in let room = f.room in let least = e.least in let most = e.most in
@@ -101,7 +101,7 @@ label_facts {volid = volid} {stamp = stamp} m e =
       long = ap (λ (x : List ℕ). length x) bytes ∙ omega (arith, length-append (first_fields l stamp) rest);
     }
 
-pub laid_out : {volid : List ℕ} {stamp : Stamp} (m : Making) → IsEmptyVolume m volid stamp → IsLaidOut m.disk m.systems []
+pub laid_out : {volid : List ℕ} {stamp : Stamp} (m : MakePlan) → IsEmptyVolume m volid stamp → IsLaidOut m.disk m.systems []
 laid_out m e =
     let f = facts m e in
     let l = label_facts m e in
@@ -130,13 +130,13 @@ laid_out m e =
 
 -- ---- the blocks that are written
 
-abbrev pub row : Making → List ℕ
+abbrev pub row : MakePlan → List ℕ
 row m = range_with_len 6 (map_size m.disk.bsize m.disk.count)
 
-pub map_times : {volid : List ℕ} {stamp : Stamp} (m : Making) → IsEmptyVolume m volid stamp → (n : ℕ) → times n m.systems.map.leaves + times n m.systems.map.pointers ≡ times n (row m)
+pub map_times : {volid : List ℕ} {stamp : Stamp} (m : MakePlan) → IsEmptyVolume m volid stamp → (n : ℕ) → times n m.systems.map.leaves + times n m.systems.map.pointers ≡ times n (row m)
 map_times m e n = sym (times_append n m.systems.map.leaves m.systems.map.pointers) ∙ ap (times n) e.map_from
 
-directory_times : {volid : List ℕ} {stamp : Stamp} (m : Making) → IsEmptyVolume m volid stamp → (n : ℕ) → times n m.systems.directory.leaves + times n m.systems.directory.pointers ≡ bit (n == 4)
+directory_times : {volid : List ℕ} {stamp : Stamp} (m : MakePlan) → IsEmptyVolume m volid stamp → (n : ℕ) → times n m.systems.directory.leaves + times n m.systems.directory.pointers ≡ bit (n == 4)
 unfolding times
 directory_times m e n =
     let f = facts m e in
@@ -144,7 +144,7 @@ directory_times m e n =
     let b : times n m.systems.directory.pointers ≡ 0 = ap (times n) f.pointers in
     omega arith
 
-write_times : {volid : List ℕ} {stamp : Stamp} (m : Making) → IsEmptyVolume m volid stamp → (n : ℕ) → times n (blocks_written (whole_made m)) ≤ bit (n == 4) + times n (row m)
+write_times : {volid : List ℕ} {stamp : Stamp} (m : MakePlan) → IsEmptyVolume m volid stamp → (n : ℕ) → times n (blocks_written (whole_made m)) ≤ bit (n == 4) + times n (row m)
 unfolding times
 write_times m e n =
     let f = facts m e in
@@ -162,7 +162,7 @@ blocks_given [] pieces same = refl
 blocks_given (n ∷ ns) [] same = absurd (omega arith)
 blocks_given (n ∷ ns) (bytes ∷ pieces) same = ap (λ (l : List ℕ). n ∷ l) (blocks_given ns pieces (omega arith))
 
-whole_placed : (m : Making) (volid : List ℕ) (stamp : Stamp) → IsEmptyVolume m volid stamp → blocks_written (whole_made m) ≡ range_with_len 6 (map_size m.disk.bsize m.disk.count) ++ 4 ∷ []
+whole_placed : (m : MakePlan) (volid : List ℕ) (stamp : Stamp) → IsEmptyVolume m volid stamp → blocks_written (whole_made m) ≡ range_with_len 6 (map_size m.disk.bsize m.disk.count) ++ 4 ∷ []
 unfolding block_writes cut
 whole_placed m volid stamp e =
     let f = facts m e in
@@ -190,16 +190,16 @@ whole_placed m volid stamp e =
     ∙ (ap (λ (l : List ℕ). t.leaves ++ l) (written_append w4 w5 ∙ (ap (λ (l : List ℕ). l ++ blocks_written w5) four ∙ ap (λ (l : List ℕ). t.pointers ++ l) five))
     ∙ (sym (append_assoc t.leaves t.pointers (4 ∷ [])) ∙ ap (λ (l : List ℕ). l ++ 4 ∷ []) e.map_from))))
   where
-    first_block : (x : Making) → x.systems.directory.leaves ≡ 4 ∷ []
+    first_block : (x : MakePlan) → x.systems.directory.leaves ≡ 4 ∷ []
         → blocks_written (block_writes (take 1 x.systems.directory.leaves) (take 1 (directory_pieces x.disk.bsize x.systems))) ≡ 4 ∷ []
     first_block x is = ap (λ (l : List ℕ). blocks_written (block_writes (take 1 l) (take 1 (cut (length l) x.disk.bsize x.systems.directory_bytes)))) is
 
 -- block 4, or one of the map's
-record Place (m : Making) (n : ℕ) : Type 0 where
+record Place (m : MakePlan) (n : ℕ) : Type 0 where
   once : bit (n == 4) + times n (row m) ≤ 1
   within : 1 ≤ bit (n == 4) + times n (row m) → (4 ≤ n) × (n ≤ m.disk.count)
 
-place : {volid : List ℕ} {stamp : Stamp} (m : Making) → IsEmptyVolume m volid stamp → (n : ℕ) → Place m n
+place : {volid : List ℕ} {stamp : Stamp} (m : MakePlan) → IsEmptyVolume m volid stamp → (n : ℕ) → Place m n
 place m e n =
     let f = facts m e in
     let room = f.room in
@@ -224,18 +224,18 @@ place m e n =
         (cases_lt (times x (range_with_len 6 (map_size m.disk.bsize m.disk.count))) 1)
 
 -- what is known of a block that is written
-record WriteFacts (m : Making) : Type 0 where
+record WriteFacts (m : MakePlan) : Type 0 where
   once : (n : ℕ) → times n (blocks_written (whole_made m)) ≤ 1
   low : (n : ℕ) → 1 ≤ times n (blocks_written (whole_made m)) → (4 ≤ n) × (n ≤ m.disk.count)
 
-write_facts : {volid : List ℕ} {stamp : Stamp} (m : Making) → IsEmptyVolume m volid stamp → WriteFacts m
+write_facts : {volid : List ℕ} {stamp : Stamp} (m : MakePlan) → IsEmptyVolume m volid stamp → WriteFacts m
 write_facts m e = record {
   once = λ n. (let t = write_times m e n in let most = (place m e n).once in omega arith);
   low = λ n some. (let t = write_times m e n in (place m e n).within (omega arith));
 }
 
 -- the label's block isn't among them
-label_apart : {volid : List ℕ} {stamp : Stamp} (m : Making) → IsEmptyVolume m volid stamp → Apart (whole_made m) (3 ∷ [])
+label_apart : {volid : List ℕ} {stamp : Stamp} (m : MakePlan) → IsEmptyVolume m volid stamp → Apart (whole_made m) (3 ∷ [])
 label_apart m e = apart_of (whole_made m) (3 ∷ []) (λ n in'. ⊎_elim (λ (three : n ≡ 3). none_at n three) (λ (no' : ⊥). absurd no') in')
   where
     none_at : (n : ℕ) → n ≡ 3 → times n (blocks_written (whole_made m)) ≡ 0
@@ -244,7 +244,7 @@ label_apart m e = apart_of (whole_made m) (3 ∷ []) (λ n in'. ⊎_elim (λ (th
         (λ (some : 1 ≤ times n (blocks_written (whole_made m))). let low = ((write_facts m e).low n some).0 in absurd (omega arith))
         (cases_lt (times n (blocks_written (whole_made m))) 1)
 
-pub directory_long : {volid : List ℕ} {stamp : Stamp} (m : Making) → IsEmptyVolume m volid stamp → length m.systems.directory_bytes ≡ length m.systems.directory.leaves * m.disk.bsize
+pub directory_long : {volid : List ℕ} {stamp : Stamp} (m : MakePlan) → IsEmptyVolume m volid stamp → length m.systems.directory_bytes ≡ length m.systems.directory.leaves * m.disk.bsize
 directory_long {stamp = stamp} m e =
     let f = facts m e in
     let low = f.low in
@@ -254,7 +254,7 @@ directory_long {stamp = stamp} m e =
 -- ---- what is held of it
 
 -- it is held as a volume is
-pub made_kept : {volid : List ℕ} {stamp : Stamp} (m : Making) (files : List HeldFile) → IsEmptyVolume m volid stamp → files ≡ []
+pub made_kept : {volid : List ℕ} {stamp : Stamp} (m : MakePlan) (files : List HeldFile) → IsEmptyVolume m volid stamp → files ≡ []
     → IsKept m.disk.bsize m.disk.count m.systems.label (length m.systems.label_bytes) m.systems.directory m.systems.map m.systems.bits files
 made_kept m files e none =
     let f = facts m e in
@@ -302,18 +302,18 @@ empty_directory bsize directory map stamp two all one is_two is s d t =
 
 -- ---- the image after it
 
-abbrev later_of : Journal → Making → Journal
+abbrev later_of : Journal → MakePlan → Journal
 later_of j m = after j (update m.unit (whole_made m) m.systems.label_bytes)
 
-abbrev later_at : Journal → Making → Image
+abbrev later_at : Journal → MakePlan → Image
 later_at j m = now (later_of j m) m.unit
 
-record Later (j : Journal) (m : Making) : Type 0 where
+record Later (j : Journal) (m : MakePlan) : Type 0 where
   label : later_at j m 3 ≡ m.systems.label_bytes
   has : HasWritten (later_at j m) (whole_made m)
   whole : IsWhole m.disk (later_at j m)
 
-later_image : {volid : List ℕ} {stamp : Stamp} (j : Journal) (m : Making) → IsEmptyVolume m volid stamp → IsReadyUnit j m → Later j m
+later_image : {volid : List ℕ} {stamp : Stamp} (j : Journal) (m : MakePlan) → IsEmptyVolume m volid stamp → IsReadyUnit j m → Later j m
 later_image j m e x = record {
   label = put.whole 3 (omega arith);
   has = written_same (put_blocks (now j m.unit) (whole_made m)) (later_at j m) (whole_made m)
@@ -353,12 +353,12 @@ later_image j m e x = record {
 
 -- ---- the new volume
 
-reads_of : {volid : List ℕ} {stamp : Stamp} (j : Journal) (m : Making) → IsEmptyVolume m volid stamp → IsReadyUnit j m → ReadsSystems m.disk (later_at j m) m.systems []
+reads_of : {volid : List ℕ} {stamp : Stamp} (j : Journal) (m : MakePlan) → IsEmptyVolume m volid stamp → IsReadyUnit j m → ReadsSystems m.disk (later_at j m) m.systems []
 reads_of {stamp = stamp} j m e x =
     let i = later_image j m e x in
     written_is_read m.disk (later_at j m) m.systems [] stamp (laid_out m e) e.stamped e.directory_bytes i.label i.has
 
-abbrev new_of : Making → Met → Met → Layout
+abbrev new_of : MakePlan → Met → Met → Layout
 new_of m directory map = record {
   label = m.systems.label;
   directory = directory_file m.disk.bsize m.systems 0;
@@ -369,7 +369,7 @@ new_of m directory map = record {
   lost = 0;
 }
 
-new_times : {volid : List ℕ} {stamp : Stamp} (m : Making) → IsEmptyVolume m volid stamp → (directory map : Met) → IsTree m.systems.directory directory → IsTree m.systems.map map → (n : ℕ)
+new_times : {volid : List ℕ} {stamp : Stamp} (m : MakePlan) → IsEmptyVolume m volid stamp → (directory map : Met) → IsTree m.systems.directory directory → IsTree m.systems.map map → (n : ℕ)
     → times n (layout_blocks (new_of m directory map)) ≡ bit (n == 4) + times n (row m)
 unfolding file_blocks times
 new_times m e directory map d t n =
@@ -379,7 +379,7 @@ new_times m e directory map d t n =
     let q = map_times m e n in
     omega (arith, times_append n directory.blocks (map.blocks ++ []), times_append n map.blocks [])
 
-new_stands : {volid : List ℕ} {stamp : Stamp} (j : Journal) (m : Making) → IsEmptyVolume m volid stamp → IsReadyUnit j m → (r : ReadsSystems m.disk (later_at j m) m.systems [])
+new_stands : {volid : List ℕ} {stamp : Stamp} (j : Journal) (m : MakePlan) → IsEmptyVolume m volid stamp → IsReadyUnit j m → (r : ReadsSystems m.disk (later_at j m) m.systems [])
     → Stands m.disk (later_at j m) (new_of m r.directory r.map)
 new_stands j m e x r = record {
   system = r.holds [] [] 0;
@@ -424,13 +424,13 @@ new_stands j m e x r = record {
 -- ---- the whole
 
 -- the making by these writes
-record MakesBy (j : Journal) (m : Making) (made : Minidisk) (ws : List Write) : Type 0 where
+record MakesBy (j : Journal) (m : MakePlan) (made : Minidisk) (ws : List Write) : Type 0 where
   either : (p : List Event) → IsFront p (update m.unit ws m.systems.label_bytes) → HasEither m.disk (after j p) m.unit (Not 2) (Volume made)
   before : (p : List Event) → IsFront p (to_label m.unit ws) → IsWiped (after j p) m.unit
   labelled : state_of m.disk (now (after j (with_label m.unit ws m.systems.label_bytes)) m.unit) ≡ Volume made
   done : IsHeldMinidisk (after j (update m.unit ws m.systems.label_bytes)) (made_volume m) made
 
-made_whole : (j : Journal) (m : Making) (volid : List ℕ) (stamp : Stamp) → IsEmptyVolume m volid stamp → IsReadyUnit j m → MakesBy j m (made_minidisk m volid) (whole_made m)
+made_whole : (j : Journal) (m : MakePlan) (volid : List ℕ) (stamp : Stamp) → IsEmptyVolume m volid stamp → IsReadyUnit j m → MakesBy j m (made_minidisk m volid) (whole_made m)
 made_whole j m volid stamp e x =
     let r = reads_of j m e x in
     let i = later_image j m e x in
@@ -472,7 +472,7 @@ made_whole j m volid stamp e x =
       };
     }
 
-pub all_written : {volid : List ℕ} {stamp : Stamp} (m : Making) → IsEmptyVolume m volid stamp → whole_made m ≡ made_writes m
+pub all_written : {volid : List ℕ} {stamp : Stamp} (m : MakePlan) → IsEmptyVolume m volid stamp → whole_made m ≡ made_writes m
 all_written m e =
     let low = (block_bounds m.disk.bsize e.size).0 in
     let l = laid_out m e in

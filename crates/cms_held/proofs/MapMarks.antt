@@ -10,7 +10,7 @@ use Rattle.cms_model.proofs.Repeats.{bit, hit, miss, held_from, not_held, in_fro
 use Rattle.cms_map.specs.Bits.{bits_in, free_from, free_blocks, with_marked, HasFixed}
 use Rattle.cms_map.proofs.Free.{free_are_unused, length-with_marked}
 use Rattle.cms_map.proofs.Held.{bits_count}
-use Rattle.cms_held.specs.Renewing.{with_freed}
+use Rattle.cms_held.specs.Renewals.{with_freed}
 
 -- ---- one bit
 

@@ -7,7 +7,7 @@ use Rattle.std.proofs.lemmas.List.{length-set, length-take, get_or-set_same, get
 use Rattle.cms_journal.proofs.Sizes.{block_bounds}
 use Rattle.cms_fields.specs.Numbers.{up}
 use Rattle.cms_model.specs.Lists.{In}
-use Rattle.cms_model.specs.Sharing.{any_within, is_kept}
+use Rattle.cms_model.specs.SharedTrees.{any_within, is_kept}
 use Rattle.cms_model.specs.SharedTimes.{came, gone, without}
 use Rattle.cms_model.specs.Sizes.{levels, map_size, pointer_count, tree_size}
 use Rattle.cms_model.proofs.Members.{In-either, In-left, In-right}
@@ -16,8 +16,8 @@ use Rattle.cms_map.specs.Bits.{free_blocks, with_marked}
 use Rattle.cms_map.specs.Touched.{AreTouched, data_block}
 use Rattle.cms_map.proofs.Free.{free_are_unused, length-with_marked}
 use Rattle.cms_tree.specs.Paths.{levels_of, tree_levels}
-use Rattle.cms_held.specs.Opening.{HeldTree}
-use Rattle.cms_held.specs.Renewing.{blocks_in, with_freed}
+use Rattle.cms_held.specs.HeldVolumes.{HeldTree}
+use Rattle.cms_held.specs.Renewals.{blocks_in, with_freed}
 use Rattle.cms_held.proofs.MapMarks.{length_freed}
 use Rattle.cms_held.specs.MapShares.{TurnedIsEnough, turned, unless_none}
 use Rattle.cms_held.specs.SharedBlocks.{fresh_of, levels_in, released_of}

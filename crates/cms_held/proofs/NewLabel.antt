@@ -4,7 +4,7 @@ use Rattle.std.specs.Prelude.{nat_le}
 use Rattle.std.proofs.lemmas.Bool.{and_from, le-leb, eqb-true, cases_lt}
 use Rattle.byteorder.specs.Endian.{big_bytes}
 use Rattle.cms_text.specs.Bytes.{word, overwritten}
-use Rattle.cms_text.proofs.Overwriting.{length_over}
+use Rattle.cms_text.proofs.Overwritten.{length_over}
 use Rattle.cms_fields.specs.Labels.{label_of, label_fields, with_label, is_origin, SpellsSame}
 use Rattle.cms_fields.specs.declared.label.Label.{Label}
 use Rattle.cms_fields.proofs.WrittenLabel.{label_passed, label_spelled, label_written}

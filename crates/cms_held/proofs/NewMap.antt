@@ -15,8 +15,8 @@ use Rattle.cms_model.specs.Sizes.{levels_from, levels, pointers_to, pointer_coun
 use Rattle.cms_model.proofs.Quotients.{up_spec, up_some}
 use Rattle.cms_model.proofs.Repeats.{bit, hit, miss}
 use Rattle.cms_map.specs.Bits.{bits_in, free_from, free_blocks, with_marked, HasFixed}
-use Rattle.cms_held.specs.Making.{first_bits}
-use Rattle.cms_held.proofs.Allotting.{nodes_few}
+use Rattle.cms_held.specs.EmptyVolumes.{first_bits}
+use Rattle.cms_held.proofs.Allotted.{nodes_few}
 
 clash : true ≡ false → ⊥
 clash e = cc

@@ -10,10 +10,10 @@ use Rattle.cms_model.specs.Stands.{Layout, file_blocks, layout_blocks, opened}
 use Rattle.cms_model.specs.LawsUpdates.{now}
 use Rattle.cms_model.proofs.InOrder.{in_order}
 use Rattle.cms_model.proofs.Repeats.{in_from, in_held, held, held_from, times_append}
-use Rattle.cms_model.proofs.Standing.{blocks_all, stands_opens}
+use Rattle.cms_model.proofs.Stands.{blocks_all, stands_opens}
 use Rattle.cms_map.specs.Bits.{bits_in}
-use Rattle.cms_held.specs.Opening.{HeldVolume}
-use Rattle.cms_held.specs.LawsRenewing.{IsHeldAt}
+use Rattle.cms_held.specs.HeldVolumes.{HeldVolume}
+use Rattle.cms_held.specs.LawsRenewals.{IsHeldAt}
 
 -- the blocks of a volume that is held: each tree has its data blocks and its pointer blocks, none twice,
 -- and all but the origin lie from 6 to the last and are marked

@@ -16,13 +16,13 @@ use Rattle.cms_model.specs.declared.fault.OpenFault.TheVariants as failed
 use Rattle.cms_model.proofs.FileSizes.{AllFit, entries_fit, entry_counted, fan_wide}
 use Rattle.cms_model.proofs.InOrder.{in_order}
 use Rattle.cms_model.proofs.MinidiskSizes.{directory_fits, map_fits}
-use Rattle.cms_model.proofs.Opening.{blamed_ok, open_ok}
+use Rattle.cms_model.proofs.OpenedVolumes.{blamed_ok, open_ok}
 use Rattle.cms_model.proofs.Quotients.{up_below, up_some, up_unique}
 use Rattle.cms_model.proofs.Results.{bind_then, ok_same}
 use Rattle.cms_tree.specs.Walks.{nodes}
 use Rattle.cms_held.specs.HeldTrees.{FileStands, OpenedTreesStand}
+use Rattle.cms_held.specs.HeldVolumes.{held_file, held_files, held_of, held_tree}
 use Rattle.cms_held.specs.Marks.{start_of}
-use Rattle.cms_held.specs.Opening.{held_file, held_files, held_of, held_tree}
 use Rattle.cms_held.specs.SharedTrees.{IsStanding}
 use Rattle.cms_held.proofs.SharedTrees.{read_stands}
 

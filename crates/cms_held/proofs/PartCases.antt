@@ -11,7 +11,7 @@ use Rattle.cms_fields.specs.declared.time.Stamp.{Stamp}
 use Rattle.cms_model.specs.LawsUpdates.{now}
 use Rattle.cms_model.specs.Lists.{In, times}
 use Rattle.cms_model.specs.Settled.{Write}
-use Rattle.cms_model.specs.Sharing.{is_kept, MayBeWritten}
+use Rattle.cms_model.specs.SharedTrees.{is_kept, MayBeWritten}
 use Rattle.cms_model.specs.SharedTimes.{without}
 use Rattle.cms_model.specs.Stands.{Kept, Layout, entries_in, file_blocks, layout_blocks}
 use Rattle.cms_model.specs.Trees.{Image, bytes_at, form_of}
@@ -22,12 +22,12 @@ use Rattle.cms_model.proofs.Repeats.{held, held_from, in_from, in_held, times_ap
 use Rattle.cms_model.proofs.TreeSizes.{tree_first}
 use Rattle.cms_map.specs.Bits.{HasFixed, free_blocks}
 use Rattle.cms_map.proofs.Held.{bits_count, fixed_in}
-use Rattle.cms_held.specs.LawsRenewing.{IsHeldAt}
+use Rattle.cms_held.specs.LawsRenewals.{IsHeldAt}
 use Rattle.cms_held.specs.MapShares.{IsMapEnough, SharesMap, turned, unless_none}
-use Rattle.cms_held.specs.Opening.{HeldFile, HeldVolume}
-use Rattle.cms_held.specs.Renewing.{Edit, blocks_in, entries_held}
+use Rattle.cms_held.specs.HeldVolumes.{HeldFile, HeldVolume}
+use Rattle.cms_held.specs.Renewals.{Edit, blocks_in, entries_held}
 use Rattle.cms_held.specs.SharedBlocks.{fresh_of, released_of}
-use Rattle.cms_held.specs.SharedRenewing.{HasLevels, IsPartPlanned, IsPartRenewal, part_later, part_writes}
+use Rattle.cms_held.specs.SharedRenewals.{HasLevels, IsPartPlanned, IsPartRenewal, part_later, part_writes}
 use Rattle.cms_held.specs.Written.{ReadsBack}
 use Rattle.cms_held.specs.Systems.{Systems}
 use Rattle.cms_held.proofs.Exchanged.{Other, other}
@@ -38,7 +38,7 @@ use Rattle.cms_held.proofs.OldBlocks.{HasBlocksOf, old_blocks}
 use Rattle.cms_held.proofs.Renewals.{entries_many}
 use Rattle.cms_held.proofs.SystemsHeld.{held_has_systems}
 use Rattle.cms_model.specs.DirectoryParts.{directory_count}
-use Rattle.cms_held.specs.Allotting.{Parts, files_fresh, files_released, on_map, part_fresh, part_released}
+use Rattle.cms_held.specs.Allotments.{Parts, files_fresh, files_released, on_map, part_fresh, part_released}
 use Rattle.cms_model.specs.Sizes.{map_size}
 use Rattle.cms_map.specs.Touched.{AreTouched}
 use Rattle.cms_map.proofs.Free.{free_are_unused}

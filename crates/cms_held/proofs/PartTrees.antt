@@ -10,15 +10,15 @@ use Rattle.cms_fields.specs.Numbers.{up}
 use Rattle.cms_model.specs.LawsSizes.{IsWhole}
 use Rattle.cms_model.specs.LawsUpdates.{AreWithin, PutsBlocks, put_block, put_blocks}
 use Rattle.cms_model.specs.Lists.{In, times}
-use Rattle.cms_model.specs.Sharing.{MayBeWritten}
+use Rattle.cms_model.specs.SharedTrees.{MayBeWritten}
 use Rattle.cms_model.specs.Stands.{layout_blocks}
 use Rattle.cms_model.specs.Trees.{Image, form_of}
 use Rattle.cms_model.proofs.Members.{In-left, In-right}
-use Rattle.cms_model.proofs.Putting.{update_is_put}
 use Rattle.cms_model.proofs.Quotients.{up_below, up_some}
 use Rattle.cms_model.proofs.Repeats.{bit, hit, miss}
-use Rattle.cms_held.specs.Opening.{HeldTree}
-use Rattle.cms_held.specs.Renewing.{blocks_in, entries_held}
+use Rattle.cms_model.proofs.WritesPut.{update_is_put}
+use Rattle.cms_held.specs.HeldVolumes.{HeldTree}
+use Rattle.cms_held.specs.Renewals.{blocks_in, entries_held}
 use Rattle.cms_held.specs.SharedBlocks.{SharesBlocks, fresh_of}
 use Rattle.cms_held.specs.SharedTrees.{HasShape, SharesTree}
 use Rattle.cms_held.specs.SharedWrites.{shared_node_writes}
@@ -30,7 +30,7 @@ use Rattle.cms_held.proofs.PiecesWritten.{has_front, has_behind}
 use Rattle.cms_held.proofs.Renewals.{all_of}
 use Rattle.cms_held.proofs.SharedWrites.{written_is_shared}
 use Rattle.cms_held.proofs.WritesPut.{blocks_written, has_written, put_aside, put_long, within_of, written_same}
-use Rattle.cms_held.specs.Allotting.{KeepsTree, files_fresh}
+use Rattle.cms_held.specs.Allotments.{KeepsTree, files_fresh}
 use Rattle.cms_held.proofs.PartCases.{Case, before_of, clash, directory_fresh, directory_may, directory_released, fresh, fresh_begins, fresh_late, has, in_times, later_of, map_fresh, map_may, not_old, old_directory, old_lies, old_map_blocks, origins, released, released_begins, same_origin, same_total, times_in, unmarked, wide, writes}
 use Rattle.cms_held.proofs.PartWrites.{fresh_times, label_facts, released_times, write_facts, writes_long}
 

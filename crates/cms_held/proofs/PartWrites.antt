@@ -8,18 +8,18 @@ use Rattle.cms_fields.specs.Labels.{label_of, is_origin}
 use Rattle.cms_fields.specs.declared.label.Label.{Label}
 use Rattle.cms_model.specs.Lists.{In, times}
 use Rattle.cms_model.specs.Settled.{Apart, Write, frame}
-use Rattle.cms_model.specs.Sharing.{is_kept, MayBeWritten}
+use Rattle.cms_model.specs.SharedTrees.{is_kept, MayBeWritten}
 use Rattle.cms_model.specs.SharedTiers.{group}
 use Rattle.cms_model.specs.Stands.{layout_blocks, opened}
 use Rattle.cms_model.proofs.Quotients.{up_spec}
 use Rattle.cms_model.proofs.Repeats.{bit, hit, miss, times_append}
 use Rattle.cms_map.specs.Bits.{free_blocks}
 use Rattle.cms_tree.specs.Builds.{marked, node_bytes}
-use Rattle.cms_held.specs.LawsRenewing.{AreBlocks}
-use Rattle.cms_held.specs.Opening.{HeldTree}
-use Rattle.cms_held.specs.Renewing.{entries_held}
+use Rattle.cms_held.specs.HeldVolumes.{HeldTree}
+use Rattle.cms_held.specs.LawsRenewals.{AreBlocks}
+use Rattle.cms_held.specs.Renewals.{entries_held}
 use Rattle.cms_held.specs.SharedBlocks.{fresh_of, levels_in}
-use Rattle.cms_held.specs.SharedRenewing.{PartUpdateIsSmall}
+use Rattle.cms_held.specs.SharedRenewals.{PartUpdateIsSmall}
 use Rattle.cms_held.specs.SharedWrites.{fresh_writes, shared_node_writes, tier_writes}
 use Rattle.cms_held.specs.Systems.{directory_bytes_of, directory_piece, map_piece, leaf_writes}
 use Rattle.cms_held.proofs.Exchanged.{first_bit}
@@ -33,7 +33,7 @@ use Rattle.cms_held.proofs.MapPlaces.{bytes_long}
 use Rattle.cms_held.proofs.WritesLong.{both_blocks, length_node}
 use Rattle.cms_held.proofs.WritesPut.{apart_of, blocks_written, written_append}
 use Rattle.cms_model.specs.DirectoryParts.{directory_count}
-use Rattle.cms_held.specs.Allotting.{files_fresh, files_released}
+use Rattle.cms_held.specs.Allotments.{files_fresh, files_released}
 use Rattle.cms_held.proofs.PartCases.{Case, case_of, directory_fresh, directory_may, directory_released, fresh, fresh_begins, fresh_late, has, held_count, map_enough, map_fresh, map_may, map_released, not_old, origins, released, same_origin, same_total, unmarked, writes}
 
 -- ---- the writes

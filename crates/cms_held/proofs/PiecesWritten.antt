@@ -15,9 +15,9 @@ use Rattle.cms_tree.specs.Builds.{Child, marked, level_over, parents, all_over, 
 use Rattle.cms_map.specs.Bits.{byte_at, bytes_from}
 use Rattle.cms_model.proofs.Shapes.{levels_needs}
 use Rattle.cms_tree.specs.Levels.{over_count}
-use Rattle.cms_tree.proofs.Rising.{all_count}
+use Rattle.cms_tree.proofs.LevelsBuilt.{all_count}
 use Rattle.cms_tree.proofs.Sums.{pointers_small}
-use Rattle.cms_held.specs.Opening.{HeldTree}
+use Rattle.cms_held.specs.HeldVolumes.{HeldTree}
 use Rattle.cms_held.specs.Systems.{block_writes, node_writes, HasWritten}
 use Rattle.cms_held.proofs.Fronts.{IsWriteAt}
 

@@ -10,11 +10,11 @@ use Rattle.cms_model.specs.Lists.{In, cut, times}
 use Rattle.cms_model.specs.Settled.{Apart, Write, frame, update}
 use Rattle.cms_model.specs.Sizes.{map_size}
 use Rattle.cms_model.specs.Stands.{Kept, Layout, file_blocks, layout_blocks, opened}
-use Rattle.cms_held.specs.Allotting.{IsPlanned, files_fresh, parts_of}
-use Rattle.cms_held.specs.LawsRenewing.{AreBlocks, IsHeldAt, IsRenewal, LeavesFiles, UpdateRenews, later_of, writes_of}
-use Rattle.cms_held.specs.Opening.{HeldVolume}
-use Rattle.cms_held.specs.Renewing.{Edit, entries_held, renewed}
-use Rattle.cms_held.specs.SharedRenewing.{IsPartPlanned, IsPartRenewal, part_later, part_writes}
+use Rattle.cms_held.specs.Allotments.{IsPlanned, files_fresh, parts_of}
+use Rattle.cms_held.specs.HeldVolumes.{HeldVolume}
+use Rattle.cms_held.specs.LawsRenewals.{AreBlocks, IsHeldAt, IsRenewal, LeavesFiles, UpdateRenews, later_of, writes_of}
+use Rattle.cms_held.specs.Renewals.{Edit, entries_held, renewed}
+use Rattle.cms_held.specs.SharedRenewals.{IsPartPlanned, IsPartRenewal, part_later, part_writes}
 use Rattle.cms_held.specs.SharedWrites.{shared_node_writes}
 use Rattle.cms_held.specs.Systems.{Systems, block_writes, data_writes, directory_piece, leaf_writes, map_piece, nodes_at}
 use Rattle.cms_held.specs.Written.{ReadsBack}

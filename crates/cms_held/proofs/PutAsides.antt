@@ -15,28 +15,28 @@ use Rattle.cms_model.specs.Settled.{Apart, Write, frame, writes}
 use Rattle.cms_model.specs.Sizes.{file_size, free_count}
 use Rattle.cms_model.specs.Stands.{Layout, file_of, layout_blocks, minidisk_in, opened}
 use Rattle.cms_model.specs.LawsUpdates.{AreWithin, IsFront, after, now}
-use Rattle.cms_model.proofs.Changing.{none_added, place_changed}
 use Rattle.cms_model.proofs.DirectoryNeed.{place_is_named}
+use Rattle.cms_model.proofs.ListChanges.{none_added, place_changed}
 use Rattle.cms_model.proofs.Records.{length_stored}
-use Rattle.cms_model.proofs.Renewing.{minidisk_is}
+use Rattle.cms_model.proofs.Renewed.{minidisk_is}
 use Rattle.cms_model.proofs.Repeats.{held, held_from, in_from, in_held}
 use Rattle.cms_map.specs.Bits.{bits_in, free_blocks}
 use Rattle.cms_tree.specs.Climbs.{AreOwn}
-use Rattle.cms_held.specs.Opening.{HeldVolume, names_in}
+use Rattle.cms_held.specs.HeldVolumes.{HeldVolume, names_in}
 use Rattle.cms_held.specs.LawsHeld.{IsFound}
-use Rattle.cms_held.specs.LawsRenewing.{AreBlocks, IsHeldAt}
-use Rattle.cms_held.specs.Putting.{AreFree, DraftGoesOn, FreeIsAside, PutIsAnswered, answer_put, count_put, count_with, limit_put, made_put, made_with, need_put}
+use Rattle.cms_held.specs.LawsRenewals.{AreBlocks, IsHeldAt}
+use Rattle.cms_held.specs.Puts.{AreFree, DraftGoesOn, FreeIsAside, PutIsAnswered, answer_put, count_put, count_with, limit_put, made_put, made_with, need_put}
 use Rattle.cms_model.proofs.Fronts.{Cut, cut_front, front_nil}
-use Rattle.cms_model.proofs.Putting.{writes_put}
+use Rattle.cms_model.proofs.WritesPut.{writes_put}
 use Rattle.cms_model.specs.LawsUpdates.{put_blocks}
 use Rattle.cms_held.specs.Drafts.{HasDraft, draft_writes, own_blocks}
 use Rattle.cms_held.specs.Systems.{HasWritten}
-use Rattle.cms_held.proofs.Drafting.{Among, among_left, among_right, draft_is_put, draft_stays, each_written, has_among, in_draft}
+use Rattle.cms_held.proofs.DraftBlocks.{Among, among_left, among_right, draft_is_put, draft_stays, each_written, has_among, in_draft}
 use Rattle.cms_held.proofs.Exchanged.{other}
 use Rattle.cms_held.proofs.HeldFiles.{opened_has_room, opened_is_held, place_is_told}
-use Rattle.cms_held.proofs.Keeping.{front_keeps_held}
 use Rattle.cms_held.proofs.MapMarks.{AreUnmarked, lowest_free}
 use Rattle.cms_held.proofs.OldBlocks.{frame_blocks, old_blocks, old_opens}
+use Rattle.cms_held.proofs.StillHeld.{front_keeps_held}
 
 -- ---- the place of a name
 

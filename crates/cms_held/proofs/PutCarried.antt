@@ -17,17 +17,17 @@ use Rattle.cms_model.specs.LawsChanges.{NoneNamed}
 use Rattle.cms_model.specs.LawsUpdates.{now}
 use Rattle.cms_map.specs.Bits.{free_blocks}
 use Rattle.cms_tree.specs.declared.types.Mark.{Mark}
-use Rattle.cms_held.specs.Opening.{HeldFile, HeldVolume}
+use Rattle.cms_held.specs.HeldVolumes.{HeldFile, HeldVolume}
 use Rattle.cms_held.specs.LawsHeld.{IsFound}
 use Rattle.cms_held.specs.Systems.{Systems}
-use Rattle.cms_held.specs.Renewing.{Edit, blocks_in, needed}
-use Rattle.cms_held.specs.LawsRenewing.{later_of}
-use Rattle.cms_held.specs.Carrying.{IsHeldMinidisk, IsReadyFor}
-use Rattle.cms_held.specs.Putting.{IsPutAs, IsPutOf, IsPutReady, PutIsCarried, adds, answer_put, count_put, limit_put, made_put, need_put, replaces}
+use Rattle.cms_held.specs.Renewals.{Edit, blocks_in, needed}
+use Rattle.cms_held.specs.LawsRenewals.{later_of}
+use Rattle.cms_held.specs.MinidiskUpdates.{IsHeldMinidisk, IsReadyFor}
+use Rattle.cms_held.specs.Puts.{IsPutAs, IsPutOf, IsPutReady, PutIsCarried, adds, answer_put, count_put, limit_put, made_put, need_put, replaces}
 use Rattle.cms_held.proofs.Carried.{carries_of, same_count}
 use Rattle.cms_held.proofs.Drafted.{fan_is}
 use Rattle.cms_held.proofs.Edits.{Moved}
-use Rattle.cms_held.proofs.Needing.{edit_put}
+use Rattle.cms_held.proofs.EditNeeds.{edit_put}
 use Rattle.cms_held.proofs.PutAsides.{count_after, found_in, put_is_answered, put_made}
 use Rattle.cms_held.proofs.PlannedWrites.{WritesBlocks, planned_writes}
 use Rattle.cms_held.proofs.PutMoves.{Puts, add_moves, put_taking, replace_moves}

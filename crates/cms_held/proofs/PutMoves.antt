@@ -22,8 +22,8 @@ use Rattle.cms_model.specs.Changes.{Put, changed_files, put_file}
 use Rattle.cms_model.specs.Stands.{Kept, HoldsFile, Layout, file_blocks, file_of, layout_blocks}
 use Rattle.cms_model.specs.LawsChanges.{NoneNamed}
 use Rattle.cms_model.specs.LawsUpdates.{now}
-use Rattle.cms_model.proofs.Changing.{none_added, place_changed}
 use Rattle.cms_model.proofs.EntriesRead.{length_so, passes_so}
+use Rattle.cms_model.proofs.ListChanges.{none_added, place_changed}
 use Rattle.cms_model.proofs.Records.{length_stored_fixed}
 use Rattle.cms_model.proofs.Repeats.{times_append, times_first, times_later}
 use Rattle.cms_model.proofs.Results.{ok_same}
@@ -33,17 +33,17 @@ use Rattle.cms_held.proofs.OldBlocks.{old_blocks}
 use Rattle.cms_tree.specs.declared.types.Mark.{Mark}
 use Rattle.cms_tree.specs.Builds.{IsBuildable}
 use Rattle.cms_held.specs.Marks.{start_of}
-use Rattle.cms_held.specs.Opening.{HeldFile, HeldVolume, size_of}
+use Rattle.cms_held.specs.HeldVolumes.{HeldFile, HeldVolume, size_of}
 use Rattle.cms_held.specs.Kept.{Keeps}
 use Rattle.cms_held.specs.Drafts.{HasAll, IsDrafted}
 use Rattle.cms_held.specs.HeldTrees.{FileStands, TreeComes}
 use Rattle.cms_held.specs.Systems.{Systems}
-use Rattle.cms_held.specs.Allotting.{IsPlanned}
-use Rattle.cms_held.specs.Renewing.{Edit, blocks_in, entries_held}
+use Rattle.cms_held.specs.Allotments.{IsPlanned}
+use Rattle.cms_held.specs.Renewals.{Edit, blocks_in, entries_held}
 use Rattle.cms_held.specs.Written.{ReadsBack}
-use Rattle.cms_held.specs.LawsRenewing.{ComesFrom, IsHeldAt, later_of}
-use Rattle.cms_held.specs.Carrying.{IsReadyFor}
-use Rattle.cms_held.specs.Putting.{IsPutAs, IsPutOf, adding, adds, replaces, replacing}
+use Rattle.cms_held.specs.LawsRenewals.{ComesFrom, IsHeldAt, later_of}
+use Rattle.cms_held.specs.MinidiskUpdates.{IsReadyFor}
+use Rattle.cms_held.specs.Puts.{IsPutAs, IsPutOf, adding, adds, replaces, replacing}
 use Rattle.cms_held.proofs.Drafted.{draft_holds}
 use Rattle.cms_held.proofs.Edits.{Beside, Is, Moved, at_place, beside_count, beside_set, come_all, files_old, found_at, moved, names_distinct, no_times, pass_all, tree_times, trees_of}
 use Rattle.cms_held.proofs.PlannedWrites.{IsTaking, taken_stay}

@@ -22,15 +22,15 @@ use Rattle.cms_tree.specs.Builds.{IsBuildable}
 use Rattle.cms_tree.specs.Climbs.{climb_writes, climb_writes_on, climbed}
 use Rattle.cms_tree.specs.Tiers.{node_write}
 use Rattle.cms_tree.proofs.Behind.{plain_writes}
-use Rattle.cms_tree.proofs.Lifting.{some_fan}
+use Rattle.cms_tree.proofs.ClimbBlocks.{some_fan}
 use Rattle.cms_tree.proofs.Totals.{climbs_all, times_here, times_more, times_there}
 use Rattle.cms_held.specs.Drafts.{data_write, draft_writes}
-use Rattle.cms_held.specs.LawsRenewing.{writes_of}
-use Rattle.cms_held.specs.Opening.{HeldVolume}
-use Rattle.cms_held.specs.Putting.{PutIsSmall}
-use Rattle.cms_held.proofs.Drafting.{next_written, none_written}
+use Rattle.cms_held.specs.HeldVolumes.{HeldVolume}
+use Rattle.cms_held.specs.LawsRenewals.{writes_of}
+use Rattle.cms_held.specs.Puts.{PutIsSmall}
+use Rattle.cms_held.proofs.DraftBlocks.{next_written, none_written}
 use Rattle.cms_held.proofs.Carried.{renewal_of, update_counted}
-use Rattle.cms_held.proofs.Needing.{edit_put, writes_need}
+use Rattle.cms_held.proofs.EditNeeds.{edit_put, writes_need}
 use Rattle.cms_held.proofs.PutCarried.{moved_ready, tree_count}
 
 -- ---- numbers that stand once

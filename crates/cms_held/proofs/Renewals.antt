@@ -15,9 +15,9 @@ use Rattle.cms_model.specs.Volumes.{Disk, as_read, length_read}
 use Rattle.cms_model.proofs.EntriesRead.{passes_so, records_so}
 use Rattle.cms_model.proofs.Repeats.{bit, hit}
 use Rattle.cms_held.specs.HeldAs.{AreHeld}
-use Rattle.cms_held.specs.LawsRenewing.{ComesFrom}
-use Rattle.cms_held.specs.Opening.{HeldFile, size_of}
-use Rattle.cms_held.specs.Renewing.{entries_held}
+use Rattle.cms_held.specs.HeldVolumes.{HeldFile, size_of}
+use Rattle.cms_held.specs.LawsRenewals.{ComesFrom}
+use Rattle.cms_held.specs.Renewals.{entries_held}
 
 -- ---- files that are held
 

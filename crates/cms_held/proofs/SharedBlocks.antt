@@ -2,12 +2,12 @@
 use Rattle.std.proofs.Common.{◌≡◌, ℕ, zero, suc, ◌*◌, ◌≤◌, true, false, List, length, take, drop, refl, ◌∙◌, ap, arith, length-append, length-drop}
 use Rattle.std.proofs.lemmas.List.{length-take}
 use Rattle.cms_fields.specs.Numbers.{up}
-use Rattle.cms_model.specs.Sharing.{fresh_count, fresh_on, is_kept}
+use Rattle.cms_model.specs.SharedTrees.{fresh_count, fresh_on, is_kept}
 use Rattle.cms_model.specs.SharedTimes.{came, without}
 use Rattle.cms_model.specs.Sizes.{levels, pointer_count, pointers_to}
 use Rattle.cms_model.proofs.SharedTimes.{came_is_fresh}
 use Rattle.cms_tree.specs.Paths.{levels_of}
-use Rattle.cms_tree.proofs.Pathing.{count_first, fresh_first, left_count, left_fresh}
+use Rattle.cms_tree.proofs.Paths.{count_first, fresh_first, left_count, left_fresh}
 use Rattle.cms_model.proofs.WrittenBlocks.{fresh_leaves, upto_all}
 use Rattle.cms_held.specs.SharedBlocks.{FreshIsCounted, levels_in}
 

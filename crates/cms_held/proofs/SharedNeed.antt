@@ -8,21 +8,21 @@ use Rattle.cms_fields.specs.declared.entry.Entry.{Entry}
 use Rattle.cms_model.specs.Changes.{Century, Change, Put, Add, Drop, Rename, added_to, moved_to, change_file, changed_files, put_file, directory_written, entries_made}
 use Rattle.cms_model.specs.LawsChanges.{IsPlace, NoneNamed}
 use Rattle.cms_model.specs.Minidisks.{File}
-use Rattle.cms_model.specs.Sharing.{fresh_count}
+use Rattle.cms_model.specs.SharedTrees.{fresh_count}
 use Rattle.cms_model.specs.Stands.{Kept, Layout, file_of, minidisk_in}
-use Rattle.cms_model.proofs.Changing.{none_added, place_changed}
+use Rattle.cms_model.proofs.ListChanges.{none_added, place_changed}
 use Rattle.cms_held.specs.EntryPlaces.{IsChangedAt, IsEnoughFor}
+use Rattle.cms_held.specs.HeldVolumes.{HeldFile, HeldVolume}
 use Rattle.cms_held.specs.LawsHeld.{IsFound}
-use Rattle.cms_held.specs.LawsRenewing.{IsHeldAt}
-use Rattle.cms_held.specs.Opening.{HeldFile, HeldVolume}
-use Rattle.cms_held.specs.Putting.{adding, replacing}
-use Rattle.cms_held.specs.Renewing.{dropping, entries_held, moved_file, moving, renamed, renaming}
+use Rattle.cms_held.specs.LawsRenewals.{IsHeldAt}
+use Rattle.cms_held.specs.Puts.{adding, replacing}
+use Rattle.cms_held.specs.Renewals.{dropping, entries_held, moved_file, moving, renamed, renaming}
 use Rattle.cms_held.specs.SharedBlocks.{fresh_of}
 use Rattle.cms_held.specs.SharedNeed.{AreEnough, TakesTheNeed, WrittenIsEnough}
 use Rattle.cms_held.proofs.Edits.{at_place, found_at, names_distinct}
 use Rattle.cms_held.proofs.EntryPlaces.{all_are_enough, edits_have_places, places_are_enough}
 use Rattle.cms_held.proofs.PutAsides.{files_count, found_in}
-use Rattle.cms_held.proofs.Removing.{length-removed}
+use Rattle.cms_held.proofs.SwapRemoved.{length-removed}
 use Rattle.cms_held.proofs.Renewals.{entries_many}
 use Rattle.cms_held.proofs.SharedBlocks.{fresh_is_counted}
 use Rattle.cms_held.proofs.PartCases.{Case, case_of, directory_may, fresh_begins, held_count}

@@ -10,15 +10,15 @@ use Rattle.cms_model.specs.Maps.{is_marked}
 use Rattle.cms_model.specs.Stands.{Layout, Stands, entries_in, file_blocks, layout_blocks, mets_in, opened, records_in}
 use Rattle.cms_model.specs.Trees.{Met, bytes_at, form_of}
 use Rattle.cms_model.specs.Volumes.{HoldsSystem, as_read}
-use Rattle.cms_model.proofs.Renewing.{renewed_stands}
+use Rattle.cms_model.proofs.Renewed.{renewed_stands}
 use Rattle.cms_model.proofs.Repeats.{bit, hit, miss, held, held_from, times_append}
-use Rattle.cms_model.proofs.Standing.{stands_opens}
-use Rattle.cms_model.proofs.Updating.{update_is_whole}
+use Rattle.cms_model.proofs.Stands.{stands_opens}
+use Rattle.cms_model.proofs.Updates.{update_is_whole}
 use Rattle.cms_map.specs.Bits.{bits_in, with_marked}
 use Rattle.cms_held.specs.HeldTrees.{FileStands}
-use Rattle.cms_held.specs.LawsRenewing.{ComesFrom, LeavesFiles}
-use Rattle.cms_held.specs.Renewing.{entries_held, with_freed}
-use Rattle.cms_held.specs.SharedRenewing.{PartRenews, PartUpdateRenews}
+use Rattle.cms_held.specs.LawsRenewals.{ComesFrom, LeavesFiles}
+use Rattle.cms_held.specs.Renewals.{entries_held, with_freed}
+use Rattle.cms_held.specs.SharedRenewals.{PartRenews, PartUpdateRenews}
 use Rattle.cms_held.specs.SharedSystems.{HasSystems, ReadsParts}
 use Rattle.cms_held.specs.SharedTrees.{StandsByLevels}
 use Rattle.cms_held.specs.MapPlaces.{BitsStay}
@@ -28,9 +28,9 @@ use Rattle.cms_held.proofs.MapMarks.{new_marks}
 use Rattle.cms_held.proofs.Renewals.{all_of, comes_from, held_pass, same_entries}
 use Rattle.cms_held.proofs.SharedSystems.{share_is_read}
 use Rattle.cms_held.proofs.SharedTrees.{levels_are_read, shared_tree_stands}
-use Rattle.cms_held.proofs.Standing.{trees_come}
 use Rattle.cms_held.proofs.SystemsHeld.{held_has_systems}
 use Rattle.cms_held.proofs.SystemsRead.{all_parts, first_allowed, lies_allowed}
+use Rattle.cms_held.proofs.TreesStay.{trees_come}
 use Rattle.cms_model.specs.DirectoryParts.{directory_count}
 use Rattle.cms_held.proofs.PartCases.{Case, before_of, case_of, fresh, has, held_count, later_of, map_enough, old_lies, old_map, origins, released, same_origin, same_total, unmarked, wide, writes}
 use Rattle.cms_held.proofs.PartWrites.{fields, fresh_times, label_facts, write_times, writes_apart}

@@ -13,7 +13,7 @@ use Rattle.cms_fields.specs.declared.entry.Entry.{Entry}
 use Rattle.cms_model.specs.Lists.{In, cut, holds}
 use Rattle.cms_model.specs.Trees.{Image, bytes_at}
 use Rattle.cms_model.specs.Volumes.{as_read, entries_of}
-use Rattle.cms_model.proofs.Opening.{label_reads}
+use Rattle.cms_model.proofs.OpenedVolumes.{label_reads}
 use Rattle.cms_model.proofs.Quotients.{up_spec, up_some, up_below, up_unique}
 use Rattle.cms_model.proofs.Repeats.{in_from, in_held}
 use Rattle.cms_held.specs.Systems.{directory_bytes_of, directory_file, map_file, system_entry}

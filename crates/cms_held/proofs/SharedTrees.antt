@@ -11,7 +11,7 @@ use Rattle.cms_model.specs.ByLevels.{Heaped, beside, tiers, tiers_below}
 use Rattle.cms_model.specs.SharedTiers.{top_of}
 use Rattle.cms_model.specs.Sizes.{levels, pointer_count, pointers_to}
 use Rattle.cms_model.specs.Trees.{Form, Image, pointers}
-use Rattle.cms_model.proofs.Building.{built_reads}
+use Rattle.cms_model.proofs.BuiltTrees.{built_reads}
 use Rattle.cms_model.proofs.ByLevels.{read_is_heaped}
 use Rattle.cms_model.proofs.Quotients.{up_spec, up_some, up_unique, up_up}
 use Rattle.cms_model.proofs.Shapes.{levels_needs, shape_least, shape_needs}
@@ -19,8 +19,8 @@ use Rattle.cms_model.proofs.SharedTiers.{points_tier, shared_stands, up_one}
 use Rattle.cms_model.proofs.TreeSizes.{length-pointers, tree_has_size}
 use Rattle.cms_tree.specs.Builds.{root_of}
 use Rattle.cms_tree.specs.Paths.{levels_of}
-use Rattle.cms_tree.proofs.Pathing.{count_first, left_count}
-use Rattle.cms_held.specs.Opening.{HeldTree}
+use Rattle.cms_tree.proofs.Paths.{count_first, left_count}
+use Rattle.cms_held.specs.HeldVolumes.{HeldTree}
 use Rattle.cms_held.specs.SharedBlocks.{levels_in}
 use Rattle.cms_held.specs.SharedTrees.{HasShape, IsStanding, LevelsAreRead, ReadStandsByLevels, SharedTreeStands}
 

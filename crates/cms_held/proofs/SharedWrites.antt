@@ -12,7 +12,7 @@ use Rattle.cms_fields.specs.Numbers.{up}
 use Rattle.cms_model.specs.LawsTrees.{Cell, FitsCell, cell_bytes}
 use Rattle.cms_model.specs.Lists.{In}
 use Rattle.cms_model.specs.Settled.{Write}
-use Rattle.cms_model.specs.Sharing.{fresh_on, is_kept, MayBeWritten}
+use Rattle.cms_model.specs.SharedTrees.{fresh_on, is_kept, MayBeWritten}
 use Rattle.cms_model.specs.SharedTiers.{Names, Shared, group}
 use Rattle.cms_model.specs.SharedTimes.{came, without}
 use Rattle.cms_model.specs.Sizes.{levels}
@@ -22,7 +22,7 @@ use Rattle.cms_model.proofs.SharedTiers.{never_kept}
 use Rattle.cms_tree.specs.Builds.{Child, cell_of, marked, node_bytes}
 use Rattle.cms_tree.specs.Paths.{PointFresh, levels_of, numbered, path_levels, paths}
 use Rattle.cms_tree.proofs.Own.{in_at}
-use Rattle.cms_tree.proofs.Pathing.{length-numbered, path_is_shared}
+use Rattle.cms_tree.proofs.Paths.{length-numbered, path_is_shared}
 use Rattle.cms_held.specs.SharedBlocks.{levels_in}
 use Rattle.cms_held.specs.SharedWrites.{FreshAreWritten, WrittenIsShared, fresh_writes, shared_node_writes, tier_writes}
 use Rattle.cms_held.specs.Systems.{HasWritten, leaf_writes}

@@ -18,13 +18,13 @@ use Rattle.cms_model.proofs.InOrder.{in_order}
 use Rattle.cms_model.proofs.Members.{In-left, In-right}
 use Rattle.cms_model.proofs.MinidiskSizes.{directory_fits, map_fits}
 use Rattle.cms_model.proofs.Quotients.{up_some, up_below, up_unique}
-use Rattle.cms_model.proofs.Standing.{stands_opened}
+use Rattle.cms_model.proofs.Stands.{stands_opened}
 use Rattle.cms_model.proofs.TreeFrame.{tree_inside}
 use Rattle.cms_model.proofs.TreeSizes.{tree_has_size}
 use Rattle.cms_map.specs.Bits.{bits_in}
-use Rattle.cms_held.specs.LawsRenewing.{IsHeldAt}
-use Rattle.cms_held.specs.Opening.{HeldVolume}
-use Rattle.cms_held.specs.Renewing.{entries_held}
+use Rattle.cms_held.specs.HeldVolumes.{HeldVolume}
+use Rattle.cms_held.specs.LawsRenewals.{IsHeldAt}
+use Rattle.cms_held.specs.Renewals.{entries_held}
 use Rattle.cms_held.proofs.OldBlocks.{old_opens}
 use Rattle.cms_held.proofs.Renewals.{entries_many, same_entries}
 use Rattle.cms_held.specs.SharedSystems.{HeldHasSystems}

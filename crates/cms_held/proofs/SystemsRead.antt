@@ -26,20 +26,20 @@ use Rattle.cms_model.specs.Systems.{SystemFile, system_fields, is_system, is_dir
 use Rattle.cms_model.specs.Trees.{Image, form_of, bytes_at, is_allowed}
 use Rattle.cms_model.specs.Built.{AllAllowed, ReadsAs}
 use Rattle.cms_model.specs.Volumes.{as_read, entries_of}
-use Rattle.cms_model.proofs.Opening.{label_reads}
+use Rattle.cms_model.proofs.OpenedVolumes.{label_reads}
 use Rattle.cms_model.proofs.Shapes.{levels_needs}
 use Rattle.cms_model.proofs.Quotients.{up_spec, up_some, up_below, up_unique}
 use Rattle.cms_map.specs.Bits.{byte_at, bytes_from, bits_in}
 use Rattle.cms_map.proofs.Packed.{marked_bit, reads_back}
 use Rattle.cms_tree.specs.Builds.{root_of}
-use Rattle.cms_tree.proofs.Building.{built_is_tree}
-use Rattle.cms_held.specs.Opening.{HeldTree}
+use Rattle.cms_tree.proofs.BuiltTrees.{built_is_tree}
+use Rattle.cms_held.specs.HeldVolumes.{HeldTree}
 use Rattle.cms_held.specs.Written.{ReadsBack, directory_name, map_name, system_name, file_entries}
 use Rattle.cms_held.specs.Systems.{Systems, directory_file, map_file, system_entry, directory_bytes_of, block_writes, directory_pieces, map_pieces, node_writes, HasWritten, WrittenIsRead, MapIsRead}
 use Rattle.cms_held.proofs.EntryBytes.{length_entries}
 use Rattle.cms_held.specs.SharedTrees.{IsStanding}
 use Rattle.cms_held.proofs.PiecesWritten.{has_front, has_behind, pieces_joined, nodes_written}
-use Rattle.cms_held.proofs.Standing.{built_stands}
+use Rattle.cms_held.proofs.TreesStay.{built_stands}
 
 -- ---- the entries of files
 

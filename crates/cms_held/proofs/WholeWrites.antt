@@ -9,7 +9,7 @@ use Rattle.cms_model.specs.Sizes.{pointer_count}
 use Rattle.cms_model.proofs.Cuts.{get_or_cut, length_cut}
 use Rattle.cms_map.specs.Bits.{bytes_from}
 use Rattle.cms_tree.specs.Builds.{node_at, node_bytes, nodes_over}
-use Rattle.cms_held.specs.Opening.{HeldTree}
+use Rattle.cms_held.specs.HeldVolumes.{HeldTree}
 use Rattle.cms_held.specs.Systems.{Systems, TreePart, block_writes, data_writes, leaf_writes, map_piece, node_writes, nodes_at, system_writes, whole_part, whole_writes}
 use Rattle.cms_held.proofs.PiecesWritten.{bytes_part, length_nodes}
 

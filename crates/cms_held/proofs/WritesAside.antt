@@ -8,8 +8,8 @@ use Rattle.cms_model.specs.Lists.{In, times}
 use Rattle.cms_model.specs.Settled.{Write}
 use Rattle.cms_model.proofs.Repeats.{bit, hit, times_append, times_first, times_later}
 use Rattle.cms_model.proofs.WrittenBlocks.{behind_higher}
-use Rattle.cms_held.specs.Renewing.{entries_held}
-use Rattle.cms_held.specs.SharedRenewing.{part_writes}
+use Rattle.cms_held.specs.Renewals.{entries_held}
+use Rattle.cms_held.specs.SharedRenewals.{part_writes}
 use Rattle.cms_held.specs.SharedWrites.{shared_node_writes}
 use Rattle.cms_held.specs.Systems.{directory_piece, leaf_writes, map_piece}
 use Rattle.cms_held.proofs.PartCases.{Case}

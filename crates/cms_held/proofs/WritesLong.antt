@@ -8,11 +8,11 @@ use Rattle.cms_model.specs.Lists.{cut}
 use Rattle.cms_model.specs.LawsTrees.{cell_bytes}
 use Rattle.cms_model.specs.Settled.{Write}
 use Rattle.cms_tree.specs.Builds.{Child, all_over, cell_of, level_over, node_bytes, nodes_over, parents}
-use Rattle.cms_tree.proofs.Filling.{length-cells}
+use Rattle.cms_tree.proofs.FilledBlocks.{length-cells}
 use Rattle.cms_map.specs.Bits.{bytes_from}
-use Rattle.cms_held.specs.Opening.{HeldTree}
+use Rattle.cms_held.specs.HeldVolumes.{HeldTree}
 use Rattle.cms_held.specs.Systems.{Systems, block_writes, directory_pieces, map_pieces, node_writes, whole_writes}
-use Rattle.cms_held.specs.LawsRenewing.{AreBlocks}
+use Rattle.cms_held.specs.LawsRenewals.{AreBlocks}
 use Rattle.cms_held.proofs.MapBytes.{length_written}
 
 -- each piece has so many bytes

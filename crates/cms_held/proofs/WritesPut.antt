@@ -7,11 +7,11 @@ use Rattle.cms_model.specs.Trees.{Image}
 use Rattle.cms_model.specs.Settled.{Write, Apart}
 use Rattle.cms_model.specs.LawsUpdates.{put_block, put_blocks, AreWithin}
 use Rattle.cms_model.proofs.Repeats.{times_append, times_first, times_later}
-use Rattle.cms_model.proofs.Putting.{apart_is_kept}
+use Rattle.cms_model.proofs.WritesPut.{apart_is_kept}
 use Rattle.cms_tree.specs.Builds.{node_bytes, nodes_over}
-use Rattle.cms_held.specs.Opening.{HeldTree}
+use Rattle.cms_held.specs.HeldVolumes.{HeldTree}
 use Rattle.cms_held.specs.Systems.{Systems, block_writes, whole_writes, node_writes, directory_pieces, map_pieces, HasWritten}
-use Rattle.cms_held.specs.LawsRenewing.{AreBlocks}
+use Rattle.cms_held.specs.LawsRenewals.{AreBlocks}
 
 -- the blocks that are written
 abbrev pub blocks_written : List Write → List ℕ

@@ -5,7 +5,7 @@ use Rattle.cms_map.specs.Bits.{bits_in}
 use Rattle.cms_model.specs.Records.{length_of}
 use Rattle.cms_model.specs.Trees.{Image, Met, bytes_at}
 use Rattle.cms_model.specs.Volumes.{Disk, Opened, as_read, open_of}
-use Rattle.cms_held.specs.Opening.{HeldFile, HeldVolume, size_of, held_of}
+use Rattle.cms_held.specs.HeldVolumes.{HeldFile, HeldVolume, size_of, held_of}
 use Rattle.cms_held.specs.Systems.{IsTree}
 
 -- the file of an entry that was read, with this tree and these records; the entry that is held tells their length, at V of the longest

@@ -6,8 +6,8 @@ use Rattle.cms_model.specs.Lists.{In}
 use Rattle.cms_model.specs.Records.{records_of}
 use Rattle.cms_model.specs.Trees.{Image, bytes_at, form_of}
 use Rattle.cms_model.specs.Volumes.{Disk, Opened, open_of}
+use Rattle.cms_held.specs.HeldVolumes.{HeldFile, HeldVolume, held_of}
 use Rattle.cms_held.specs.Marks.{start_of}
-use Rattle.cms_held.specs.Opening.{HeldFile, HeldVolume, held_of}
 use Rattle.cms_held.specs.SharedTrees.{IsStanding}
 
 -- the start of a file is that of the records that are read from its data blocks

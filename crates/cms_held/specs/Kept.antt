@@ -9,7 +9,7 @@ use Rattle.cms_fields.specs.declared.label.Label.{Label}
 use Rattle.cms_fields.specs.Numbers.{up}
 use Rattle.cms_model.specs.DirectoryParts.{directory_count}
 use Rattle.cms_model.specs.Lists.{In}
-use Rattle.cms_held.specs.Opening.{HeldFile, HeldTree, HeldVolume}
+use Rattle.cms_held.specs.HeldVolumes.{HeldFile, HeldTree, HeldVolume}
 use Rattle.cms_held.specs.SharedTrees.{HasShape}
 use Rattle.cms_held.specs.Written.{ReadsBack}
 

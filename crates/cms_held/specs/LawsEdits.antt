@@ -12,12 +12,12 @@ use Rattle.cms_model.specs.Stands.{Kept, Layout, file_of, minidisk_in, opened}
 use Rattle.cms_model.specs.LawsChanges.{NoneNamed}
 use Rattle.cms_model.specs.LawsUpdates.{Relabels, after, now, relabel}
 use Rattle.cms_map.specs.Bits.{free_blocks}
-use Rattle.cms_held.specs.Opening.{HeldFile, HeldVolume}
+use Rattle.cms_held.specs.HeldVolumes.{HeldFile, HeldVolume}
 use Rattle.cms_held.specs.Kept.{Keeps}
 use Rattle.cms_held.specs.Written.{ReadsBack}
-use Rattle.cms_held.specs.Renewing.{Edit, dropping, entries_held, moving, needed, renaming}
+use Rattle.cms_held.specs.Renewals.{Edit, dropping, entries_held, moving, needed, renaming}
 use Rattle.cms_held.specs.Systems.{Systems}
-use Rattle.cms_held.specs.LawsRenewing.{IsHeldAt, LeavesFiles, Renews}
+use Rattle.cms_held.specs.LawsRenewals.{IsHeldAt, LeavesFiles, Renews}
 
 -- an edit leaves files that are those of the minidisk after a change
 pub record Edits (before later : Image) (v : HeldVolume) (edit : Edit) (old : Layout) (change : Change) : Type 0 where

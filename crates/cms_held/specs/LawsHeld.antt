@@ -12,7 +12,7 @@ use Rattle.cms_model.specs.Volumes.{Disk, Opened, open_of, minidisk_of}
 use Rattle.cms_model.specs.LawsChanges.{NoneNamed, IsPlace}
 use Rattle.cms_model.specs.LawsRecords.{AreBytes}
 use Rattle.cms_model.specs.LawsSizes.{IsWhole}
-use Rattle.cms_held.specs.Opening.{HeldFile, HeldVolume, names_in}
+use Rattle.cms_held.specs.HeldVolumes.{HeldFile, HeldVolume, names_in}
 use Rattle.cms_held.specs.HeldAs.{IsHeldAs}
 use Rattle.cms_held.specs.Kept.{Keeps}
 

@@ -7,8 +7,8 @@ use Rattle.cms_model.specs.Lists.{In}
 use Rattle.cms_model.specs.Sizes.{map_size, pointer_count}
 use Rattle.cms_map.specs.Bits.{HasFixed, free_blocks, with_marked}
 use Rattle.cms_map.specs.Touched.{AreTouched}
-use Rattle.cms_held.specs.Opening.{HeldTree}
-use Rattle.cms_held.specs.Renewing.{blocks_in, with_freed}
+use Rattle.cms_held.specs.HeldVolumes.{HeldTree}
+use Rattle.cms_held.specs.Renewals.{blocks_in, with_freed}
 use Rattle.cms_held.specs.MapPlaces.{BitsStay}
 use Rattle.cms_held.specs.SharedBlocks.{fresh_of, released_of}
 

@@ -1,12 +1,12 @@
 -- The blocks of a tree that an update writes in part: those that it writes and those that it keeps.
 use Rattle.std.specs.Prelude.{◌≡◌, ℕ, ◌<◌, true, List, ◌++◌, length, slice_index, All}
 use Rattle.cms_model.specs.Lists.{In}
-use Rattle.cms_model.specs.Sharing.{MayBeWritten, fresh_count, is_kept}
+use Rattle.cms_model.specs.SharedTrees.{MayBeWritten, fresh_count, is_kept}
 use Rattle.cms_model.specs.SharedTimes.{came, gone, without}
 use Rattle.cms_model.specs.Sizes.{pointer_count}
 use Rattle.cms_model.specs.Trees.{Image}
 use Rattle.cms_tree.specs.Paths.{tree_levels}
-use Rattle.cms_held.specs.Opening.{HeldTree}
+use Rattle.cms_held.specs.HeldVolumes.{HeldTree}
 
 -- ---- in an image
 

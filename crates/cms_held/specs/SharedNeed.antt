@@ -6,13 +6,13 @@ use Rattle.cms_fields.specs.declared.time.Stamp.{Stamp}
 use Rattle.cms_model.specs.Changes.{Century, Change, Put, Add, Drop, Rename, changed_files, directory_fresh, directory_written}
 use Rattle.cms_model.specs.Minidisks.{File, same_name}
 use Rattle.cms_model.specs.Stands.{Kept, Layout, file_of, minidisk_in}
-use Rattle.cms_held.specs.Allotting.{Parts, files_fresh}
+use Rattle.cms_held.specs.Allotments.{Parts, files_fresh}
 use Rattle.cms_held.specs.EntryPlaces.{IsChangedAt, IsEnoughFor}
-use Rattle.cms_held.specs.LawsRenewing.{IsHeldAt}
-use Rattle.cms_held.specs.Opening.{HeldFile, HeldVolume, names_in}
-use Rattle.cms_held.specs.Putting.{adding, replacing}
-use Rattle.cms_held.specs.Renewing.{Edit, dropping, entries_held, moving, renaming}
-use Rattle.cms_held.specs.SharedRenewing.{IsPartRenewal}
+use Rattle.cms_held.specs.HeldVolumes.{HeldFile, HeldVolume, names_in}
+use Rattle.cms_held.specs.LawsRenewals.{IsHeldAt}
+use Rattle.cms_held.specs.Puts.{adding, replacing}
+use Rattle.cms_held.specs.Renewals.{Edit, dropping, entries_held, moving, renaming}
+use Rattle.cms_held.specs.SharedRenewals.{IsPartRenewal}
 use Rattle.cms_held.specs.Systems.{Systems}
 
 -- a list of entries is changed in one place where a file goes, where one takes its place, and where one is added

@@ -14,9 +14,9 @@ use Rattle.cms_model.specs.Trees.{Image, Met, bytes_at, form_of}
 use Rattle.cms_model.specs.Volumes.{Disk, HoldsSystem}
 use Rattle.cms_map.specs.Bits.{bits_in, bytes_from}
 use Rattle.cms_tree.specs.Builds.{root_of}
-use Rattle.cms_held.specs.LawsRenewing.{IsHeldAt}
-use Rattle.cms_held.specs.Opening.{HeldVolume}
-use Rattle.cms_held.specs.Renewing.{entries_held}
+use Rattle.cms_held.specs.LawsRenewals.{IsHeldAt}
+use Rattle.cms_held.specs.HeldVolumes.{HeldVolume}
+use Rattle.cms_held.specs.Renewals.{entries_held}
 use Rattle.cms_held.specs.Written.{all_read}
 use Rattle.cms_held.specs.Systems.{IsLaidOut, IsTree, Systems, directory_bytes_of, directory_file, map_file}
 use Rattle.cms_model.specs.DirectoryParts.{directory_count}

@@ -8,7 +8,7 @@ use Rattle.cms_model.specs.SharedTiers.{SameLeaves, Shared}
 use Rattle.cms_model.specs.Sizes.{levels, pointer_count}
 use Rattle.cms_model.specs.Trees.{Form, Image, Met, tree}
 use Rattle.cms_tree.specs.Builds.{root_of}
-use Rattle.cms_held.specs.Opening.{HeldTree}
+use Rattle.cms_held.specs.HeldVolumes.{HeldTree}
 use Rattle.cms_held.specs.SharedBlocks.{levels_in}
 
 -- a tree as it is held stands in an image level by level, up to its root

@@ -9,8 +9,8 @@ use Rattle.cms_model.specs.SharedTiers.{group}
 use Rattle.cms_model.specs.Trees.{Image, form_of}
 use Rattle.cms_tree.specs.Builds.{marked, node_bytes}
 use Rattle.cms_tree.specs.Paths.{path_levels}
-use Rattle.cms_held.specs.Opening.{HeldTree}
-use Rattle.cms_model.specs.Sharing.{MayBeWritten, is_kept}
+use Rattle.cms_held.specs.HeldVolumes.{HeldTree}
+use Rattle.cms_model.specs.SharedTrees.{MayBeWritten, is_kept}
 use Rattle.cms_held.specs.SharedBlocks.{SharesBlocks, fresh_of, levels_in}
 use Rattle.cms_held.specs.SharedTrees.{HasShape, SharesTree}
 use Rattle.cms_held.specs.Systems.{HasWritten, leaf_writes}

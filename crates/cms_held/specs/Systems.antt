@@ -21,7 +21,7 @@ use Rattle.cms_model.specs.Volumes.{Disk, HoldsSystem}
 use Rattle.cms_model.specs.Settled.{Write}
 use Rattle.cms_map.specs.Bits.{bits_in, bytes_from, HasFixed}
 use Rattle.cms_tree.specs.Builds.{node_at, node_bytes, nodes_over, root_of}
-use Rattle.cms_held.specs.Opening.{HeldTree}
+use Rattle.cms_held.specs.HeldVolumes.{HeldTree}
 use Rattle.cms_held.specs.SharedTrees.{IsStanding}
 use Rattle.cms_held.specs.Written.{ReadsBack, all_read, directory_name, map_name, file_entries}
 

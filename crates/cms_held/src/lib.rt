@@ -9,4 +9,4 @@ pub use laws::{
     adding_laws, carrying_laws, draft_laws, growing_laws, held_laws, making_laws, put_laws,
     renewal_laws, shared_renewal_laws, shared_systems_laws, shared_tree_laws, systems_laws,
 };
-pub use tree::TreeBlocks;
+pub use tree::HeldTree;

@@ -1,3 +1,3 @@
-mod Printing
+mod Printed
 mod Found
 mod Failures

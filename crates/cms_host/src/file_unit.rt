@@ -99,7 +99,7 @@ fn sharing(access: Access) -> Sharing
 }
 
 // Gives a new image its blocks of zeros, and makes sure that it stays with its name.
-#[tactic(auto, using(crate::proofs::Printing::made_lemmas))]
+#[tactic(auto, using(crate::proofs::Printed::made_lemmas))]
 fn make_blocks<S: System>(
     system: &mut S,
     file: usize,
@@ -129,7 +129,7 @@ fn whole_blocks(bytes: u64, bsize: u32) -> u32
 }
 
 /// An image as a unit, with the lock on its file. What isn't a plain file is refused, and so is one that is in use.
-#[tactic(auto, using(crate::proofs::Printing::made_lemmas))]
+#[tactic(auto, using(crate::proofs::Printed::made_lemmas))]
 pub fn open_unit<S: System>(
     system: &mut S,
     name: &str,

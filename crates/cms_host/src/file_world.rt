@@ -85,7 +85,7 @@ impl<S: System + Drop> FileWorld<S> {
     }
 
     // Adds an image as the next unit.
-    #[tactic(auto, using(crate::proofs::Printing::done_lemmas))]
+    #[tactic(auto, using(crate::proofs::Printed::done_lemmas))]
     fn add_unit(&mut self, name: &str, bsize: u32, access: Access) -> Result<Unit, Trouble>
         requires { 0 < bsize }
         ensures number { IfOk result (λ unit. unit.number ≡ length self.old.units.items) }
@@ -173,7 +173,7 @@ impl<S: System + Drop> FileWorld<S> {
     }
 
     // Writes a block of a unit once what was typed is printed, and says whether all of it was written.
-    #[tactic(auto, using(crate::proofs::Printing::done_lemmas))]
+    #[tactic(auto, using(crate::proofs::Printed::done_lemmas))]
     fn write_unit(&mut self, unit: u8, block: u32, from: &[u8]) -> bool
         ensures wrote { IsTrue result → UnitDeeds self.old.units.items unit
             (λ u. Wrote u.file ((block - 1) * u.bsize) from.now ∷ [])
@@ -195,7 +195,7 @@ impl<S: System + Drop> FileWorld<S> {
     }
 
     // Syncs a unit once what was typed is printed, and says whether it is. Where that fails a person is told so, once a unit.
-    #[tactic(auto, using(crate::proofs::Printing::done_lemmas))]
+    #[tactic(auto, using(crate::proofs::Printed::done_lemmas))]
     fn sync_unit(&mut self, unit: u8) -> bool
         ensures synced { IsTrue result → UnitDeeds self.old.units.items unit
             (λ u. Synced u.file ∷ []) self.old.output self.new.output
@@ -228,7 +228,7 @@ impl<S: System + Drop> FileWorld<S> {
     }
 
     // The next bytes of the script, once what was typed is printed.
-    #[tactic(auto, using(crate::proofs::Printing::done_lemmas))]
+    #[tactic(auto, using(crate::proofs::Printed::done_lemmas))]
     fn read_script(&mut self, into: &mut [u8]) -> Option<usize>
         ensures within { IfSome result (λ n. n ≤ length into.old) }
         ensures done { OnSome result (PrintsThen (ScriptRead ∷ []) self.old.output self.new.output

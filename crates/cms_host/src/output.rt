@@ -13,7 +13,7 @@ mod tests;
 const ROOM: usize = 65_536;
 
 // Prints all bytes, or as many as it can: how many.
-#[tactic(auto, using(crate::proofs::Printing::front_lemmas))]
+#[tactic(auto, using(crate::proofs::Printed::front_lemmas))]
 fn print_front<S: System>(system: &mut S, from: &[u8]) -> usize
     ensures within { result ≤ length from.now }
     ensures printed { S.told system.new
@@ -61,7 +61,7 @@ impl Gathered {
 
     /// Prints all that was gathered, and says whether it could: what couldn't be printed stays. A printer may take some bytes before
     /// it fails, so what was printed then is any front of them.
-    #[tactic(auto, using(crate::proofs::Printing::flush_lemmas))]
+    #[tactic(auto, using(crate::proofs::Printed::flush_lemmas))]
     pub fn flush<S: System>(&mut self, system: &mut S) -> bool
         ensures all { IsTrue result ↔ (self.new ≡ []) }
         ensures prints { Prints self.old self.new (S.told system.old) (S.told system.new) }
@@ -77,7 +77,7 @@ impl Gathered {
     }
 
     // Gathers bytes where there is room for them, and says whether there was.
-    #[tactic(auto, using(crate::proofs::Printing::gather_lemmas))]
+    #[tactic(auto, using(crate::proofs::Printed::gather_lemmas))]
     fn gather(&mut self, from: &[u8]) -> bool
         ensures gathered { IsTrue result → self.new ≡ self.old ++ from.now }
         ensures full { result ≡ false → self.new ≡ self.old }
@@ -98,7 +98,7 @@ impl Gathered {
     ///
     /// They are gathered where there is room for them, once all that was gathered is printed where there isn't. More than there
     /// is ever room for, or where nothing is gathered, they are printed at once.
-    #[tactic(auto, using(crate::proofs::Printing::add_lemmas))]
+    #[tactic(auto, using(crate::proofs::Printed::add_lemmas))]
     pub fn add<S: System>(&mut self, system: &mut S, from: &[u8]) -> Option<usize>
         requires { 0 < length from.now }
         ensures within { IfSome result (λ n. (0 < n) × (n ≤ length from.now)) }

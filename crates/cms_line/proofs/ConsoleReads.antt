@@ -5,7 +5,7 @@ use Rattle.cms_journal.specs.declared.event.Event.{Event}
 use Rattle.cms_journal.specs.declared.event.Event.TheVariants.{Read}
 use Rattle.cms_journal.specs.Told.{Told, plus, script, is_over}
 use Rattle.cms_machine.specs.Items.{Unread, items, extended, Lazy, listed}
-use Rattle.cms_line.specs.ConsoleState.{ConsoleState}
+use Rattle.cms_line.specs.ConsoleState.{Console}
 use Rattle.cms_line.specs.Consoles.{item_of, Took, Stayed}
 use Rattle.cms_line.specs.ConsoleSteps.{Gives, GivesLine, Filled}
 use Rattle.cms_line.specs.declared.console.ConsoleLine.{ConsoleLine}
@@ -40,7 +40,7 @@ lazy_more u ended es b lazy yet none p q c e =
     last (x ∷ []) is rest = cc
     last (x ∷ y ∷ d) is rest = cc
 
-pub stayed_none : (j : Told) (was : ConsoleState) → Stayed j j was was
+pub stayed_none : (j : Told) (was : Console) → Stayed j j was was
 stayed_none j was = record {
   events = [];
   told = refl;
@@ -52,11 +52,11 @@ stayed_none j was = record {
   };
 }
 
-pub stayed_same : (j k l : Told) (was now later : ConsoleState) → Stayed j k was now → l ≡ k → later ≡ now → Stayed j l was later
-stayed_same j k l was now later s same_told same = subst (λ (c : ConsoleState). Stayed j l was c) (sym same) (subst (λ (t : Told). Stayed j t was now) (sym same_told) s)
+pub stayed_same : (j k l : Told) (was now later : Console) → Stayed j k was now → l ≡ k → later ≡ now → Stayed j l was later
+stayed_same j k l was now later s same_told same = subst (λ (c : Console). Stayed j l was c) (sym same) (subst (λ (t : Told). Stayed j t was now) (sym same_told) s)
 
 -- the rest of a long line was passed
-pub stayed_passed : (j k : Told) (was now later : ConsoleState) → Stayed j k was now → Gives now later [] → Stayed j k was later
+pub stayed_passed : (j k : Told) (was now later : Console) → Stayed j k was now → Gives now later [] → Stayed j k was later
 stayed_passed j k was now later s g = record {
   events = s.events;
   told = s.told;
@@ -69,7 +69,7 @@ stayed_passed j k was now later s g = record {
 }
 
 -- more was read
-pub stayed_filled : (j k l : Told) (was now later : ConsoleState) → Stayed j k was now → now.ended ≡ false → items now.unread false ≡ [] → Filled k l now later → Stayed j l was later
+pub stayed_filled : (j k l : Told) (was now later : Console) → Stayed j k was now → now.ended ≡ false → items now.unread false ≡ [] → Filled k l now later → Stayed j l was later
 stayed_filled j k l was now later s yet none f =
     let es = s.events in
     let after : List Event = es ++ Read f.bytes ∷ [] in
@@ -96,7 +96,7 @@ stayed_filled j k l was now later s yet none f =
       };
     }
 
-pub took_line : (j k : Told) (was now later : ConsoleState) (line : ConsoleLine) → Stayed j k was now → GivesLine now later line → Took j k was later line
+pub took_line : (j k : Told) (was now later : Console) (line : ConsoleLine) → Stayed j k was now → GivesLine now later line → Took j k was later line
 took_line j k was now later line s g =
     let is : item_of line ≡ Some g.0 = g.1 in
     record {
@@ -111,9 +111,9 @@ took_line j k was now later line s g =
       };
     }
 
-pub took_end : (j k : Told) (was now later : ConsoleState) → Stayed j k was now → later ≡ now → now.ended ≡ true → items now.unread true ≡ [] → Took j k was later End
+pub took_end : (j k : Told) (was now later : Console) → Stayed j k was now → later ≡ now → now.ended ≡ true → items now.unread true ≡ [] → Took j k was later End
 took_end j k was now later s same over none =
-    subst (λ (c : ConsoleState). Took j k was c End) (sym same)
+    subst (λ (c : Console). Took j k was c End) (sym same)
     (record {
       events = s.events;
       told = s.told;

@@ -5,7 +5,7 @@ use Rattle.std.proofs.lemmas.List.{take-append-drop, map-append}
 use Rattle.cms_ebcdic.specs.CodePage.{host_of}
 use Rattle.cms_journal.specs.declared.event.Event.TheVariants.{Typed}
 use Rattle.cms_journal.specs.Told.{Told, plus, typed}
-use Rattle.cms_line.specs.Typing.{TypedTo, TypedPart}
+use Rattle.cms_line.specs.Typed.{TypedTo, TypedPart}
 use Rattle.cms_machine.specs.Acts.{typed_line}
 use Rattle.cms_journal.proofs.Pieces.{plus_plus, typed-append}
 use Rattle.cms_journal.proofs.Events.{all_join}

@@ -6,7 +6,7 @@ use Rattle.cms_journal.specs.Told.{Told, plus}
 use Rattle.cms_machine.specs.Beats.{OnlyRead}
 use Rattle.cms_machine.specs.Items as items
 use Rattle.cms_machine.specs.Items.{Item, Takes, Keeps}
-use Rattle.cms_line.specs.ConsoleState.{ConsoleState}
+use Rattle.cms_line.specs.ConsoleState.{Console}
 use Rattle.cms_line.specs.declared.console.ConsoleLine.{ConsoleLine}
 use Rattle.cms_line.specs.declared.console.ConsoleLine.TheVariants.{Text, Bad, Long, Rest, End}
 use Rattle.cms_line.specs.declared.console.LineFault.{LineFault}
@@ -21,14 +21,14 @@ item_of Rest = Some items.Rest
 item_of End = None
 
 -- by these reads and no other event a line was taken
-pub record Took (old new : Told) (was now : ConsoleState) (line : ConsoleLine) : Type 0 where
+pub record Took (old new : Told) (was now : Console) (line : ConsoleLine) : Type 0 where
   pub events : List Event
   pub told : new ≡ plus old events
   pub only : OnlyRead events
   pub takes : Takes was.unread was.ended events (item_of line) now.unread now.ended
 
 -- by these reads and no other event none was, and all that was read is kept
-pub record Stayed (old new : Told) (was now : ConsoleState) : Type 0 where
+pub record Stayed (old new : Told) (was now : Console) : Type 0 where
   pub events : List Event
   pub told : new ≡ plus old events
   pub only : OnlyRead events

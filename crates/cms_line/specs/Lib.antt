@@ -1,4 +1,4 @@
-pub mod Typing
+pub mod Typed
 pub mod ConsoleState
 pub mod Consoles
 pub mod ConsoleSteps

@@ -58,9 +58,9 @@ pub struct Console {
 
 impl Model for Console {
     ghost use Rattle.std.specs.Prelude.{◌≡◌, ◌≤◌, ◌-◌, take, drop, length, false};
-    ghost use Rattle.cms_line.specs.ConsoleState.{ConsoleState};
+    ghost use Rattle.cms_line.specs.ConsoleState as states;
 
-    ghost Value = { ConsoleState };
+    ghost Value = { states.Console };
 
     ghost view = { λ c. record {
       unread = record { within = c.within; bytes = take (c.end - c.start) (drop c.start c.buffer.items) };

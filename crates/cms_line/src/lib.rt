@@ -6,7 +6,7 @@ mod console;
 mod message;
 mod stack;
 mod token;
-mod typing;
+mod typed_line;
 mod words;
 
 pub use choices::{
@@ -18,5 +18,5 @@ pub use console::{Console, ConsoleLine, LineFault};
 pub use message::{Message, write_message};
 pub use stack::{ProgStack, PushFault, STACK_LINES};
 pub use token::{Token, Tokens};
-pub use typing::type_line;
+pub use typed_line::type_line;
 pub use words::tokens;

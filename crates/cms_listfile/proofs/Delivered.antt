@@ -8,7 +8,7 @@ use Rattle.cms_files.specs.declared.stack.StackEnd.{StackEnd}
 use Rattle.cms_search.specs.Calls.{Acts, Does, Spot, course_of, itself, machine_of, said}
 use Rattle.cms_operands.specs.declared.refusal.Refusal.{Refusal}
 use Rattle.cms_search.specs.Machine.{Machine, Went, typing}
-use Rattle.cms_search.specs.Tables.{Accesses}
+use Rattle.cms_search.specs.Tables.{AccessTable}
 use Rattle.cms_search.specs.declared.fault.SearchFault.{SearchFault}
 use Rattle.cms_search.specs.declared.search.Found.{Found}
 use Rattle.cms_search.specs.declared.state.Course as declared
@@ -98,23 +98,23 @@ stacks_no_listing goes.Typed lines was = refl
 stacks_no_listing (goes.Stacked end) lines was = stacks_none end lines was
 stacks_no_listing (goes.Written append) lines was = refl
 
-pub stacks_no_file : (t : Accesses) (style : ListStyle) (found : Result (List Found) SearchFault) (was : List (List ℕ)) → StacksFound t style found was was
+pub stacks_no_file : (t : AccessTable) (style : ListStyle) (found : Result (List Found) SearchFault) (was : List (List ℕ)) → StacksFound t style found was was
 stacks_no_file t style (Ok found) was = stacks_no_listing style.delivery (with_header style (lines_told style.columns t found)) was
 stacks_no_file t style (Err fault) was = refl
 
-pub stacks_no_line : (t : Accesses) (s : Machine) (line : Result ListLine Refusal) (was : List (List ℕ)) → StacksLine t s line was was
+pub stacks_no_line : (t : AccessTable) (s : Machine) (line : Result ListLine Refusal) (was : List (List ℕ)) → StacksLine t s line was was
 stacks_no_line t s (Ok line) was = stacks_no_file t line.style (files_listed s line) was
 stacks_no_line t s (Err why) was = refl
 
 -- ---- a file's line
 
-pub untold : (w : Seen) (last : Columns) (t : Accesses) (found : Found) (x : Unit {0}) → listed_at t found ≡ None → Does w w (typing (line_told last t found) nothing) (Ok x) said
+pub untold : (w : Seen) (last : Columns) (t : AccessTable) (found : Found) (x : Unit {0}) → listed_at t found ≡ None → Does w w (typing (line_told last t found) nothing) (Ok x) said
 untold w last t found x none =
     let lines : line_told last t found ≡ [] = ap (λ (o : Option ListedFile). option_map_or (λ (f : ListedFile). line_to last (told_columns (years_of last) f) ∷ []) o []) none in
     subst (λ (l : List (List ℕ)). Does w w (typing l nothing) (Ok x) said) (sym lines)
     (subst (λ (a : Act (Unit {0})). Does w w a (Ok x) said) (sym typing_none) (silent w x))
 
-pub told_line : (last : Columns) (t : Accesses) (found : Found) (file : ListedFile) (line : List ℕ) → listed_at t found ≡ Some file → line ≡ line_to last (told_columns (years_of last) file)
+pub told_line : (last : Columns) (t : AccessTable) (found : Found) (file : ListedFile) (line : List ℕ) → listed_at t found ≡ Some file → line ≡ line_to last (told_columns (years_of last) file)
     → line_told last t found ≡ line ∷ []
 told_line last t found file line at is =
     ap (λ (o : Option ListedFile). option_map_or (λ (f : ListedFile). line_to last (told_columns (years_of last) f) ∷ []) o []) at ∙ ap (λ (l : List ℕ). l ∷ []) (sym is)

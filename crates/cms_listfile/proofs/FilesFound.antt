@@ -4,7 +4,7 @@ use Rattle.std.specs.Prelude.{⊤}
 use Rattle.cms_search.specs.Machine.{Machine}
 use Rattle.cms_search.specs.Searches.{Shelves, fitting, item_at, search, shelves_in}
 use Rattle.cms_search.specs.Shows.{Shows}
-use Rattle.cms_search.specs.Tables.{Accesses, letters_of, shelves_of, writing}
+use Rattle.cms_search.specs.Tables.{AccessTable, letters_of, shelves_of, writing}
 use Rattle.cms_search.specs.declared.fault.SearchFault.{SearchFault}
 use Rattle.cms_search.specs.declared.fault.SearchFault.TheVariants as why
 use Rattle.cms_search.specs.declared.search.Found.{Found}
@@ -17,7 +17,7 @@ use Rattle.cms_listfile.specs.declared.listfile.ListLine.{ListLine}
 
 -- ---- the disk that is written
 
-pub disk_checked : (t : Accesses) (s : Machine) (n : ℕ) (r : Result ⊤ SearchFault) → Shows t s → r ≡ writing (item_at (letters_of t) n) n → may_write (writable (shelves_in s) n) ≡ r
+pub disk_checked : (t : AccessTable) (s : Machine) (n : ℕ) (r : Result ⊤ SearchFault) → Shows t s → r ≡ writing (item_at (letters_of t) n) n → may_write (writable (shelves_in s) n) ≡ r
 disk_checked t s n (Ok tt) shows is =
     let seat = written_at t n (sym is) in
     ap (λ (x : Shelves). may_write (writable x n)) (sym (shelves_shown t s shows)) ∙ ap may_write (open_shelf t n seat.0 seat.1 (sym is))
@@ -28,7 +28,7 @@ disk_checked t s n (Err e) shows is = ap (λ (x : Shelves). may_write (writable 
 abbrev searched : Shelves → ListLine → Result (List Found) SearchFault
 searched shelves line = search shelves line.files.mode (fitting line.files.file line.files.kind)
 
-pub not_searched : (t : Accesses) (line : ListLine) (e : SearchFault) → searched (shelves_of t) line ≡ Err e → (s : Machine) → Shows t s → files_listed s line ≡ Err e
+pub not_searched : (t : AccessTable) (line : ListLine) (e : SearchFault) → searched (shelves_of t) line ≡ Err e → (s : Machine) → Shows t s → files_listed s line ≡ Err e
 not_searched t line e is s shows =
     let found : searched (shelves_in s) line ≡ Err e = ap (λ (x : Shelves). searched x line) (sym (shelves_shown t s shows)) ∙ is in
     rw found refl

@@ -10,14 +10,14 @@ use Rattle.cms_model.specs.Volumes.{Disk, Opened, IsOpened, contents_in, file_tr
 use Rattle.cms_model.proofs.FilesRead.{IsRead, each_read}
 use Rattle.cms_model.proofs.FileSizes.{AllFit, EntryFits, entries_fit, file_of, is_filled, stored_fills}
 use Rattle.cms_model.proofs.InOrder.{in_order}
-use Rattle.cms_model.proofs.Opening.{open_ok}
+use Rattle.cms_model.proofs.OpenedVolumes.{open_ok}
 use Rattle.cms_held.specs.HeldAs.{AreHeld}
+use Rattle.cms_held.specs.HeldVolumes.{HeldFile}
 use Rattle.cms_held.specs.LawsHeld.{IsFileOf}
-use Rattle.cms_held.specs.Opening.{HeldFile}
-use Rattle.cms_edf.specs.Asking as asked
+use Rattle.cms_edf.specs.FilesTold as asked
 use Rattle.cms_edf.specs.declared.held.FileInfo.{FileInfo}
 use Rattle.cms_disk.specs.Disks.{Accessed, StandsIn}
-use Rattle.cms_disk.proofs.Finding.{stands_tells}
+use Rattle.cms_disk.proofs.FilesFound.{stands_tells}
 use Rattle.cms_listfile.specs.Lines.{data_blocks, info_of}
 
 -- ---- data blocks

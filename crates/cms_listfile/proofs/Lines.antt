@@ -7,15 +7,15 @@ use Rattle.cms_ebcdic.specs.CodePage.{code_of, code_page}
 use Rattle.cms_text.specs.Texts.{without_trailing_blanks}
 use Rattle.cms_model.specs.Minidisks.{File, Minidisk}
 use Rattle.cms_machine.specs.Acts.{Act, bind}
-use Rattle.cms_edf.specs.Asking.{infos_in}
+use Rattle.cms_edf.specs.FilesTold.{infos_in}
 use Rattle.cms_edf.specs.declared.held.FileInfo.{FileInfo}
 use Rattle.cms_disk.specs.Disks.{Accessed}
-use Rattle.cms_disk.proofs.Finding.{stands_tells}
+use Rattle.cms_disk.proofs.FilesFound.{stands_tells}
 use Rattle.cms_search.specs.Calls.{Does, said}
 use Rattle.cms_search.specs.Machine.{Letter, Machine, letter_at, typing}
 use Rattle.cms_search.specs.Searches.{item_at}
 use Rattle.cms_search.specs.Shows.{Shows}
-use Rattle.cms_search.specs.Tables.{Accesses, Seated}
+use Rattle.cms_search.specs.Tables.{AccessTable, Seated}
 use Rattle.cms_search.specs.Texts.{left_in, spaced}
 use Rattle.cms_search.specs.declared.search.Found.{Found}
 use Rattle.cms_search.specs.declared.state.End.{End}
@@ -69,7 +69,7 @@ label_added years f l l' is more =
 
 -- ---- a file that was found
 
-pub listed_so : (t : Accesses) (found : Found) (d : Accessed) (x : Option FileInfo) → Some d ≡ option_map (λ (s : Seated). s.disk) (item_at t.seats found.letter) → x ≡ info_found t found
+pub listed_so : (t : AccessTable) (found : Found) (d : Accessed) (x : Option FileInfo) → Some d ≡ option_map (λ (s : Seated). s.disk) (item_at t.seats found.letter) → x ≡ info_found t found
     → option_map (listed_on found.letter d.volume) x ≡ listed_at t found
 listed_so t found d x is told = cases (item_at t.seats found.letter) is told
   where
@@ -96,7 +96,7 @@ abbrev told_at : Columns → Found → Option Seated → List (List ℕ)
 told_at last found x = option_map_or (λ (f : ListedFile). line_to last (told_columns (years_of last) f) ∷ [])
     (option_and_then (λ s. option_map (listed_on found.letter s.disk.volume) (slice_get (infos_in s.disk.volume) found.place)) x) []
 
-line_shown : (last : Columns) (t : Accesses) (s : Machine) (found : Found) → Shows t s → lines_on s last found (letter_at s found.letter) ≡ line_told last t found
+line_shown : (last : Columns) (t : AccessTable) (s : Machine) (found : Found) → Shows t s → lines_on s last found (letter_at s found.letter) ≡ line_told last t found
 line_shown last t s found shows = cases (item_at t.seats found.letter) refl
   where
     letter : letter_at s found.letter ≡ option_map (λ (x : Seated). x.letter) (item_at t.seats found.letter)
@@ -117,7 +117,7 @@ line_shown last t s found shows = cases (item_at t.seats found.letter) refl
         ∙ ap (λ (volid : List ℕ). shown_in last found found.letter volid (option_map (info_of m.bsize) (slice_get m.files found.place))) (sym held.volid_is)
         ∙ ap (λ (y : Option FileInfo). shown_in last found found.letter v.label.volid y) (sym files)
 
-pub lines_shown : (last : Columns) (t : Accesses) (s : Machine) (found : List Found) → Shows t s → lines_of s last found ≡ lines_told last t found
+pub lines_shown : (last : Columns) (t : AccessTable) (s : Machine) (found : List Found) → Shows t s → lines_of s last found ≡ lines_told last t found
 lines_shown last t s [] shows = refl
 lines_shown last t s (f ∷ found) shows =
     ap (λ (l : List (List ℕ)). l ++ lines_of s last found) (line_shown last t s f shows)

@@ -10,7 +10,7 @@ use Rattle.cms_text.specs.Texts.{coded}
 use Rattle.cms_model.specs.declared.file.FileData.{FileData}
 use Rattle.cms_files.specs.Gathered.{AreData, IsGathered, record_in}
 use Rattle.cms_files.specs.declared.gathered.Gathered.{Gathered}
-use Rattle.cms_search.specs.Tables.{Accesses}
+use Rattle.cms_search.specs.Tables.{AccessTable}
 use Rattle.cms_search.specs.declared.search.Found.{Found}
 use Rattle.cms_listfile.specs.Lines.{line_to, told_columns, years_of}
 use Rattle.cms_listfile.specs.Listfile.{procedure_lines, records_in}
@@ -30,13 +30,13 @@ lines_append format size a b =
 
 -- ---- the line of a file
 
-pub none_gathered : (format : Format) (size : ℕ) (some : List (List ℕ)) (last : Columns) (t : Accesses) (found : Found) (g : Gathered) → listed_at t found ≡ None
+pub none_gathered : (format : Format) (size : ℕ) (some : List (List ℕ)) (last : Columns) (t : AccessTable) (found : Found) (g : Gathered) → listed_at t found ≡ None
     → IsGathered format size some g → IsGathered format size (some ++ lines_for format size (line_told last t found)) g
 none_gathered format size some last t found g none is =
     let lines : line_told last t found ≡ [] = ap (λ (o : Option ListedFile). option_map_or (λ (f : ListedFile). line_to last (told_columns (years_of last) f) ∷ []) o []) none in
     subst (λ (l : List (List ℕ)). IsGathered format size l g) (sym (ap (λ (l : List (List ℕ)). some ++ lines_for format size l) lines ∙ append-nil some)) is
 
-pub one_gathered : (format : Format) (size : ℕ) (some : List (List ℕ)) (last : Columns) (t : Accesses) (found : Found) (line text : List ℕ) (g : Gathered)
+pub one_gathered : (format : Format) (size : ℕ) (some : List (List ℕ)) (last : Columns) (t : AccessTable) (found : Found) (line text : List ℕ) (g : Gathered)
     → line_told last t found ≡ line ∷ [] → text ≡ coded (codes "&1 &2 ") ++ line → IsGathered format size (some ++ record_in format size text ∷ []) g
     → IsGathered format size (some ++ lines_for format size (line_told last t found)) g
 one_gathered format size some last t found line text g told is gathered =
@@ -48,7 +48,7 @@ one_gathered format size some last t found line text g told is gathered =
 pub gathered_first : (format : Format) (size : ℕ) (some : List (List ℕ)) (g : Gathered) → IsGathered format size some g → IsGathered format size (some ++ lines_for format size []) g
 gathered_first format size some g is = subst (λ (l : List (List ℕ)). IsGathered format size l g) (sym (append-nil some)) is
 
-pub gathered_on : (format : Format) (size : ℕ) (some : List (List ℕ)) (last : Columns) (t : Accesses) (found : List Found) (k : ℕ) (x : Found) (g : Gathered) → slice_get found k ≡ Some x
+pub gathered_on : (format : Format) (size : ℕ) (some : List (List ℕ)) (last : Columns) (t : AccessTable) (found : List Found) (k : ℕ) (x : Found) (g : Gathered) → slice_get found k ≡ Some x
     → IsGathered format size ((some ++ lines_for format size (lines_told last t (take k found))) ++ lines_for format size (line_told last t x)) g
     → IsGathered format size (some ++ lines_for format size (lines_told last t (take (k + 1) found))) g
 gathered_on format size some last t found k x g at is =
@@ -65,7 +65,7 @@ take_all [] (suc k) over = refl
 take_all (x ∷ xs) zero over = absurd (omega (arith, over))
 take_all (x ∷ xs) (suc k) over = ap (λ (l : List _). x ∷ l) (take_all xs k (omega (arith, over)))
 
-pub gathered_all : (format : Format) (size : ℕ) (some : List (List ℕ)) (last : Columns) (t : Accesses) (found : List Found) (k : ℕ) (g : Gathered) → length found ≤ k
+pub gathered_all : (format : Format) (size : ℕ) (some : List (List ℕ)) (last : Columns) (t : AccessTable) (found : List Found) (k : ℕ) (g : Gathered) → length found ≤ k
     → IsGathered format size (some ++ lines_for format size (lines_told last t (take k found))) g → IsGathered format size (some ++ lines_for format size (lines_told last t found)) g
 gathered_all format size some last t found k g over is =
     subst (λ (l : List Found). IsGathered format size (some ++ lines_for format size (lines_told last t l)) g) (take_all found k over) is

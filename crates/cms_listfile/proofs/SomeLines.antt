@@ -6,10 +6,10 @@ use Rattle.std.specs.Option.{option_and_then, option_map, option_map_or}
 use Rattle.std.proofs.lemmas.List.{length-append, length-map}
 use Rattle.std.proofs.lemmas.List.Elements.{All-append, All-cons, All-head, All-map, All-nil, All-weaker}
 use Rattle.cms_names.specs.declared.name.Name.{Name}
-use Rattle.cms_edf.specs.Asking.{info_of, infos_in}
+use Rattle.cms_edf.specs.FilesTold.{info_of, infos_in}
 use Rattle.cms_operands.specs.declared.mode.ReadMode.{ReadMode}
 use Rattle.cms_search.specs.Searches.{Shelf, found_among, found_at, found_in, found_on, is_found, item_at, letters_of_mode, places_from, places_where, search}
-use Rattle.cms_search.specs.Tables.{Accesses, Seated, listed_held, shelf_of, shelves_of}
+use Rattle.cms_search.specs.Tables.{AccessTable, Seated, listed_held, shelf_of, shelves_of}
 use Rattle.cms_search.specs.declared.fault.SearchFault.{SearchFault}
 use Rattle.cms_search.specs.declared.search.Found.{Found}
 use Rattle.cms_search.proofs.Searches.{item_at_map}
@@ -42,10 +42,10 @@ some_at (x ∷ xs) (suc k) less = some_at xs k (omega (arith, less))
 -- ---- files
 
 -- the file that was found is there
-abbrev IsThere : Accesses → Found → Type 0
+abbrev IsThere : AccessTable → Found → Type 0
 IsThere t found = (f : ListedFile) × (listed_at t found ≡ Some f)
 
-on_seat : (t : Accesses) (n k : ℕ) (s : Seated) → item_at t.seats n ≡ Some s → k < length s.disk.volume.files → IsThere t (found_at n k)
+on_seat : (t : AccessTable) (n k : ℕ) (s : Seated) → item_at t.seats n ≡ Some s → k < length s.disk.volume.files → IsThere t (found_at n k)
 on_seat t n k s at less =
     let v = s.disk.volume in
     let long = length-map v.files info_of in
@@ -55,7 +55,7 @@ on_seat t n k s at less =
           ∙ ap (option_map (listed_on n v)) info.1,
     )
 
-on_shelf : (t : Accesses) (mode : ReadMode) (names : Name → Bool) (n : ℕ) → All (IsThere t) (found_on (shelves_of t) mode names n)
+on_shelf : (t : AccessTable) (mode : ReadMode) (names : Name → Bool) (n : ℕ) → All (IsThere t) (found_on (shelves_of t) mode names n)
 on_shelf t mode names n = cases (item_at t.seats n) refl
   where
     shown : (x : Option Seated) → item_at t.seats n ≡ x
@@ -75,12 +75,12 @@ on_shelf t mode names n = cases (item_at t.seats n) refl
         (All-weaker (λ k. k < 0 + length files) (λ k. IsThere t (found_at n k)) (λ k less. on_seat t n k s at (omega (arith, less, long))) places
         (places_below (is_found mode names s.letter) 0 files)))
 
-on_letters : (t : Accesses) (mode : ReadMode) (names : Name → Bool) (letters : List ℕ) → All (IsThere t) (flat_map (λ n. found_on (shelves_of t) mode names n) letters)
+on_letters : (t : AccessTable) (mode : ReadMode) (names : Name → Bool) (letters : List ℕ) → All (IsThere t) (flat_map (λ n. found_on (shelves_of t) mode names n) letters)
 on_letters t mode names [] = All-nil (IsThere t)
 on_letters t mode names (n ∷ ns) =
     All-append (IsThere t) (found_on (shelves_of t) mode names n) (flat_map (λ n. found_on (shelves_of t) mode names n) ns) (on_shelf t mode names n) (on_letters t mode names ns)
 
-found_there : (t : Accesses) (mode : ReadMode) (names : Name → Bool) (found : List Found) → search (shelves_of t) mode names ≡ Ok found → All (IsThere t) found
+found_there : (t : AccessTable) (mode : ReadMode) (names : Name → Bool) (found : List Found) → search (shelves_of t) mode names ≡ Ok found → All (IsThere t) found
 found_there t mode names found = cases (letters_of_mode (shelves_of t) mode)
   where
     cases : (r : Result (List ℕ) SearchFault) → found_among (shelves_of t) mode names r ≡ Ok found → All (IsThere t) found
@@ -90,7 +90,7 @@ found_there t mode names found = cases (letters_of_mode (shelves_of t) mode)
 -- ---- lines
 
 -- where files were found there is a line
-pub lines_some : (t : Accesses) (mode : ReadMode) (names : Name → Bool) (found : List Found) (last : Columns) → search (shelves_of t) mode names ≡ Ok found → (found ≡ [] → ⊥)
+pub lines_some : (t : AccessTable) (mode : ReadMode) (names : Name → Bool) (found : List Found) (last : Columns) → search (shelves_of t) mode names ≡ Ok found → (found ≡ [] → ⊥)
     → HasLines last t found
 lines_some t mode names [] last is some = absurd (some refl)
 lines_some t mode names (f ∷ fs) last is some =

@@ -14,8 +14,8 @@ use Rattle.cms_line.specs.declared.token.Token.{Token}
 use Rattle.cms_operands.specs.Choices.{chosen_of, flag}
 use Rattle.cms_operands.specs.Operands.{ended, operands_of}
 use Rattle.cms_operands.specs.Optional.{pattern_or_all, reading_mode_or_a}
-use Rattle.cms_operands.specs.declared.choosing.ChosenOption.{ChosenOption}
-use Rattle.cms_operands.specs.declared.choosing.OptionForm.{OptionForm}
+use Rattle.cms_operands.specs.declared.options.ChosenOption.{ChosenOption}
+use Rattle.cms_operands.specs.declared.options.OptionForm.{OptionForm}
 use Rattle.cms_operands.specs.declared.refusal.Refusal.{Refusal}
 use Rattle.cms_search.specs.Machine.{Machine, Course, letter_at, typing}
 use Rattle.cms_search.specs.Refusals.{on_line}

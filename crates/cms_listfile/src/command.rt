@@ -26,12 +26,14 @@ use crate::listfile::{Delivery, ListLine, ListStyle, list_line};
 use crate::procedure::{DISK_A, write_listing};
 use cms_files::{StackEnd, refuse_unfound, stack_lines};
 use cms_line::{Line, Lines, Tokens};
-use cms_search::{Course, End, Found, FoundList, SearchFault, State, Table, refuse_command, say};
+use cms_search::{
+    AccessTable, Course, End, Found, FoundList, SearchFault, State, refuse_command, say,
+};
 use cms_world::World;
 use std::alloc::{AllocError, Global};
 
 // Lines that are written need disk A, which may be written.
-fn check_disk(table: &Table, delivery: Delivery) -> Result<(), SearchFault>
+fn check_disk(table: &AccessTable, delivery: Delivery) -> Result<(), SearchFault>
     ensures disk { (s : Machine) → Shows table.now s → spec.has_disk s delivery ≡ result }
     ensures may { OnOk result (MayDeliver table.now delivery) }
 {
@@ -44,7 +46,11 @@ fn check_disk(table: &Table, delivery: Delivery) -> Result<(), SearchFault>
 
 // The files that are listed: `NotAccessed` where the mode's letter isn't, then what is the matter with the disk that is written, then
 // `NotFound` where there is none of them; else there is no memory.
-fn files_listed(alloc: Global, table: &Table, line: &ListLine) -> Result<FoundList, SearchFault>
+fn files_listed(
+    alloc: Global,
+    table: &AccessTable,
+    line: &ListLine,
+) -> Result<FoundList, SearchFault>
     ensures found { IfOk result (λ found. (s : Machine) → Shows table.now s
         → spec.files_listed s line.now ≡ Ok found) }
     ensures refused { IfErr result (λ e. (e ≡ Memory)
@@ -77,7 +83,7 @@ fn type_header<W: World>(alloc: Global, world: &mut W, style: &ListStyle) -> Res
 fn type_listing<W: World>(
     alloc: Global,
     world: &mut W,
-    table: &Table,
+    table: &AccessTable,
     style: &ListStyle,
     found: &[Found],
 ) -> Result<Course, End>

@@ -10,12 +10,12 @@ use crate::columns::Columns;
 use crate::line::ListedFile;
 use cms_files::info_found;
 use cms_line::{Line, Lines};
-use cms_search::{End, Found, Table, say};
+use cms_search::{AccessTable, End, Found, say};
 use cms_world::World;
 use std::alloc::{AllocError, Global};
 
 /// The file that was found; none where it isn't there.
-pub fn listed_at(table: &Table, found: Found) -> Option<ListedFile>
+pub fn listed_at(table: &AccessTable, found: Found) -> Option<ListedFile>
     ensures { result ≡ spec.listed_at table.now found }
 {
     let disk = table.disk(found.letter)?;
@@ -32,7 +32,7 @@ pub fn listed_at(table: &Table, found: Found) -> Option<ListedFile>
 fn type_file<W: World>(
     alloc: Global,
     world: &mut W,
-    table: &Table,
+    table: &AccessTable,
     last: Columns,
     found: Found,
 ) -> Result<(), End>
@@ -50,7 +50,7 @@ fn type_file<W: World>(
 pub fn type_files<W: World>(
     alloc: Global,
     world: &mut W,
-    table: &Table,
+    table: &AccessTable,
     last: Columns,
     found: &[Found],
 ) -> Result<(), End>
@@ -67,7 +67,7 @@ pub fn type_files<W: World>(
 fn add_file(
     alloc: Global,
     lines: &mut Lines,
-    table: &Table,
+    table: &AccessTable,
     last: Columns,
     found: Found,
 ) -> Result<(), AllocError>
@@ -84,7 +84,7 @@ fn add_file(
 pub fn add_files(
     alloc: Global,
     lines: &mut Lines,
-    table: &Table,
+    table: &AccessTable,
     last: Columns,
     found: &[Found],
 ) -> Result<(), AllocError>

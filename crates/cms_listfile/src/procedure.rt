@@ -24,7 +24,7 @@ use cms_fields::Stamp;
 use cms_files::{Gathered, ToldFile, exec_kind, told_named, write_last};
 use cms_names::{Format, Name, Part};
 use cms_operands::coded;
-use cms_search::{Course, End, FileWrite, Found, State, Table};
+use cms_search::{AccessTable, Course, End, FileWrite, Found, State};
 use cms_world::World;
 use std::alloc::{AllocError, Global};
 
@@ -59,7 +59,7 @@ fn procedure_line(alloc: Global, line: &[u8]) -> Result<Vec<u8>, AllocError>
 fn gather_file(
     alloc: Global,
     records: &mut Gathered,
-    table: &Table,
+    table: &AccessTable,
     last: Columns,
     found: Found,
 ) -> Result<(), AllocError>
@@ -81,7 +81,7 @@ fn gather_file(
 fn gather_files(
     alloc: Global,
     records: &mut Gathered,
-    table: &Table,
+    table: &AccessTable,
     last: Columns,
     found: &[Found],
 ) -> Result<(), AllocError>
@@ -100,7 +100,7 @@ fn gather_files(
 // A new procedure of the lines of files.
 fn new_procedure(
     alloc: Global,
-    table: &Table,
+    table: &AccessTable,
     last: Columns,
     found: &[Found],
     stamp: &Stamp,
@@ -120,7 +120,7 @@ fn new_procedure(
 // The lines of files, of which there is one, as records of a file of which this is told.
 fn more_lines(
     alloc: Global,
-    table: &Table,
+    table: &AccessTable,
     last: Columns,
     found: &[Found],
     info: &FileInfo,

@@ -6,7 +6,7 @@ pub mod Pieces
 pub mod Units
 pub mod Aside
 pub mod Law
-pub mod Asking
+pub mod ObjectsAsked
 pub mod Join
 pub mod Single
 pub mod Feed

@@ -10,7 +10,7 @@ use Rattle.cms_model.specs.Volumes.{state_of}
 use Rattle.cms_model.specs.Settled.{Write, writes, update}
 use Rattle.cms_model.specs.Changes.{Change, Put, Add, Drop, Rename, Relabel, Century, Answer, Limited, Full, Changed, answer_of}
 use Rattle.cms_model.specs.LawsUpdates.{now, IsFront, with_label}
-use Rattle.cms_model.proofs.Settling.{sync_settles}
+use Rattle.cms_model.proofs.SettledUnits.{sync_settles}
 use Rattle.cms_machine.specs.Slots.{Slot, Settled, Doubt, named, set_of, IsAmong}
 use Rattle.cms_machine.specs.Steps.{Outcome, Good, ReadFault, SyncFault, OldFault, EitherFault, is_taken, MayPut, after_access, after_update, after_put, access_syncs, most_put, update_syncs, put_syncs}
 use Rattle.cms_machine.specs.LawsSteps.{change_events, SyncsAreCounted, RefusedIsNothing, KeptWithoutSync, AccessEndsDoubt, DoubtHasBoth, FaultsAreCounted}

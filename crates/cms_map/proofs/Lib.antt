@@ -2,4 +2,4 @@ pub mod Free
 pub mod Held
 pub mod Low
 pub mod Packed
-pub mod Touching
+pub mod TouchedBlocks

@@ -13,11 +13,11 @@ use Rattle.cms_model.specs.Changes.{changed_files, entries_made, moved_to, stamp
 use Rattle.cms_model.specs.DirectoryParts.{all_entries, blocks_with, directory_count, directory_taken, entry_block}
 use Rattle.cms_model.specs.LawsCenturies.{CenturyIsWhole, MovedIsLate, MovedIsStamp}
 use Rattle.cms_model.specs.Lists.{In, holds}
-use Rattle.cms_model.specs.Sharing.{fresh_count}
+use Rattle.cms_model.specs.SharedTrees.{fresh_count}
 use Rattle.cms_model.specs.Sizes.{directory_more, pointer_count, tree_size}
 use Rattle.cms_model.proofs.DirectoryParts.{all_blocks, from_row, made_all}
 use Rattle.cms_model.proofs.Repeats.{in_held}
-use Rattle.cms_model.proofs.Sharing.{all_is_whole}
+use Rattle.cms_model.proofs.SharedTrees.{all_is_whole}
 
 -- ---- stamps
 

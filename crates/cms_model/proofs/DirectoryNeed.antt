@@ -8,11 +8,11 @@ use Rattle.cms_model.specs.LawsChanges.{IsPlace, NoneNamed}
 use Rattle.cms_model.specs.Minidisks.{File, Minidisk, same_name}
 use Rattle.cms_model.specs.DirectoryParts.{all_entries, directory_count, directory_taken}
 use Rattle.cms_model.specs.LawsRoom.{DirectoryIsNeeded, PlaceIsNamed}
-use Rattle.cms_model.specs.Sharing.{MayBeWritten}
+use Rattle.cms_model.specs.SharedTrees.{MayBeWritten}
 use Rattle.cms_model.specs.Sizes.{directory_more}
-use Rattle.cms_model.proofs.Changing.{name_other, name_self}
 use Rattle.cms_model.proofs.DirectoryParts.{blocks_ascend, blocks_may, blocks_within}
-use Rattle.cms_model.proofs.Exchanging.{takes_its_size}
+use Rattle.cms_model.proofs.Exchanges.{takes_its_size}
+use Rattle.cms_model.proofs.ListChanges.{name_other, name_self}
 
 -- ---- the place of a name
 

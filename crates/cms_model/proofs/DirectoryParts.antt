@@ -12,7 +12,7 @@ use Rattle.cms_journal.proofs.Sizes.{block_bounds}
 use Rattle.cms_fields.specs.Numbers.{up}
 use Rattle.cms_model.specs.DirectoryParts.{all_entries, blocks_with, directory_count, entry_block}
 use Rattle.cms_model.specs.Lists.{In, holds}
-use Rattle.cms_model.specs.Sharing.{MayBeWritten}
+use Rattle.cms_model.specs.SharedTrees.{MayBeWritten}
 use Rattle.cms_model.proofs.Quotients.{up_spec, up_some}
 use Rattle.cms_model.proofs.Repeats.{in_held}
 

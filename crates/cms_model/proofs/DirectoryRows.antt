@@ -5,7 +5,7 @@ use Rattle.cms_model.specs.Changes.{Century, Drop, Put, changed_files, directory
 use Rattle.cms_model.specs.DirectoryParts.{blocks_with, directory_count, directory_taken}
 use Rattle.cms_model.specs.Lists.{holds, same}
 use Rattle.cms_model.specs.Minidisks.{File, Minidisk, same_name}
-use Rattle.cms_model.specs.Sharing.{any_within, fresh_count, fresh_on, fresh_to, is_kept}
+use Rattle.cms_model.specs.SharedTrees.{any_within, fresh_count, fresh_on, fresh_to, is_kept}
 use Rattle.cms_model.specs.Sizes.{levels, levels_from}
 
 a_file : ℕ → File

@@ -10,7 +10,7 @@ use Rattle.cms_model.specs.Trees.{Image, Form, pointers, is_allowed, tree}
 use Rattle.cms_model.specs.Records.{varying, records_of}
 use Rattle.cms_model.specs.Maps.{is_marked, is_used, lowest_unmarked, lost_count}
 use Rattle.cms_model.specs.Sizes.{levels_from, levels, pointers_to, pointer_count, tree_size, stored_size, file_size, directory_more, map_size, used_count, free_count}
-use Rattle.cms_model.specs.Sharing.{any_within, is_kept, fresh_on, fresh_to, fresh_count}
+use Rattle.cms_model.specs.SharedTrees.{any_within, is_kept, fresh_on, fresh_to, fresh_count}
 use Rattle.cms_model.specs.Minidisks.{File, Minidisk, same_name}
 use Rattle.cms_model.specs.DirectoryParts.{blocks_with, directory_taken}
 use Rattle.cms_model.specs.Changes.{Put, Drop, Century, stamp_moved, entries_made, place_named, empty_minidisk, changed_files, written_file, put_file, drop_file, last_first, need}

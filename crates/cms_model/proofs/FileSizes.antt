@@ -31,7 +31,7 @@ use Rattle.cms_model.proofs.Records.{length_stored, length_stored_fixed, fits_cu
 use Rattle.cms_model.proofs.TreeFrame.{between, tree_inside, tree_places}
 use Rattle.cms_model.proofs.TreeSizes.{tree_has_size}
 use Rattle.cms_model.proofs.EntriesRead.{fits_so, counts_so}
-use Rattle.cms_model.proofs.Opening.{blamed_ok}
+use Rattle.cms_model.proofs.OpenedVolumes.{blamed_ok}
 use Rattle.cms_model.proofs.FilesRead.{IsRead, each_read}
 use Rattle.cms_model.proofs.InOrder.{place_none}
 

@@ -6,7 +6,7 @@ use Rattle.cms_model.specs.Records.{records_of}
 use Rattle.cms_model.specs.Volumes.{Disk, blamed, holder_of, file_trees, contents_in}
 use Rattle.cms_model.specs.declared.fault.OpenFault.TheVariants as failed
 use Rattle.cms_model.proofs.Results.{ok_same, bind_then}
-use Rattle.cms_model.proofs.Opening.{blamed_ok}
+use Rattle.cms_model.proofs.OpenedVolumes.{blamed_ok}
 
 -- what a file's tree and its records are, where both were read
 pub record IsRead (disk : Disk) (total : ℕ) (image : Image) (holder : ℕ) (e : Entry) (m : Met) (rs : List (List ℕ)) : Type 0 where

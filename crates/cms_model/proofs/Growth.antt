@@ -7,10 +7,10 @@ use Rattle.cms_names.specs.declared.name.Format.TheVariants.{F, V}
 use Rattle.cms_fields.specs.Entries.{fan_of}
 use Rattle.cms_fields.specs.Numbers.{up}
 use Rattle.cms_model.specs.Growth.{growth_given, growth_taken, places_grown}
-use Rattle.cms_model.specs.Sharing.{MayBeWritten, any_within, fresh_count, fresh_on, fresh_to, is_kept}
+use Rattle.cms_model.specs.SharedTrees.{MayBeWritten, any_within, fresh_count, fresh_on, fresh_to, is_kept}
 use Rattle.cms_model.specs.Sizes.{levels, levels_from, tree_size}
 use Rattle.cms_model.proofs.DirectoryParts.{from_row, in_row, row_ascends, row_low}
-use Rattle.cms_model.proofs.Exchanging.{size_is_exchanged}
+use Rattle.cms_model.proofs.Exchanges.{size_is_exchanged}
 use Rattle.cms_model.proofs.Quotients.{up_more}
 
 -- the full data blocks are no more than all

@@ -10,7 +10,7 @@ use Rattle.cms_model.specs.LawsVolumes.{IsInOrder}
 use Rattle.cms_model.proofs.Results.{ok_same, bind_then}
 use Rattle.cms_model.proofs.Members.{In-either}
 use Rattle.cms_model.proofs.TreeFrame.{Place, tree_places}
-use Rattle.cms_model.proofs.Opening.{open_ok, label_reads}
+use Rattle.cms_model.proofs.OpenedVolumes.{open_ok, label_reads}
 use Rattle.cms_model.proofs.Repeats.{in_held, once_from, marked_from}
 
 pub place_none : (last n : ℕ) → Place last None n → (6 ≤ n) × (n ≤ last)

@@ -6,7 +6,7 @@ use Rattle.cms_model.specs.Minidisks.{File, same_name}
 use Rattle.cms_model.specs.Changes.{Put, Add, Drop, Rename, Relabel, Century, file_named, put_file, added_to, moved_to, change_file, behind_first, last_first, drop_file, changed_files, changed}
 use Rattle.cms_model.specs.LawsChanges.{NoneNamed, AreDistinct}
 use Rattle.cms_model.specs.LawsLookup.{ChangedIsFound, IsMoved, OthersStay, RestIsLeft}
-use Rattle.cms_model.proofs.Changing.{name_from, name_self, name_other, name_differs, none_added, none_same, none_last}
+use Rattle.cms_model.proofs.ListChanges.{name_from, name_self, name_other, name_differs, none_added, none_same, none_last}
 
 -- ---- the name that is changed
 

@@ -19,7 +19,7 @@ use Rattle.cms_model.proofs.Results.{ok_same, want_ok}
 use Rattle.cms_model.proofs.Quotients.{up_unique, up_some, up_below}
 use Rattle.cms_model.proofs.TreeFrame.{between, tree_inside}
 use Rattle.cms_model.proofs.TreeSizes.{tree_has_size, tree_first}
-use Rattle.cms_model.proofs.Opening.{open_ok}
+use Rattle.cms_model.proofs.OpenedVolumes.{open_ok}
 use Rattle.cms_model.proofs.InOrder.{in_order}
 use Rattle.cms_model.proofs.Members.{In-left}
 use Rattle.cms_model.proofs.Repeats.{in_held, held, in_from}

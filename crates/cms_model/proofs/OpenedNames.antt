@@ -8,8 +8,8 @@ use Rattle.cms_model.specs.Minidisks.{File, same_name, is_named}
 use Rattle.cms_model.specs.Volumes.{Disk, Opened, open_of, minidisk_of, first_twice, files_of}
 use Rattle.cms_model.specs.LawsChanges.{NoneNamed, AreDistinct}
 use Rattle.cms_model.proofs.Repeats.{if_none}
-use Rattle.cms_model.proofs.Opening.{open_ok}
-use Rattle.cms_model.proofs.Changing.{name_differs}
+use Rattle.cms_model.proofs.OpenedVolumes.{open_ok}
+use Rattle.cms_model.proofs.ListChanges.{name_differs}
 
 -- none of the files has one of these names
 abbrev AllNew : List Name → List File → Type 0

@@ -7,10 +7,10 @@ use Rattle.cms_fields.specs.Numbers.{up}
 use Rattle.cms_model.specs.Trees.{Image, Form, pointers}
 use Rattle.cms_model.specs.Built.{Points}
 use Rattle.cms_model.specs.ByLevels.{Heaped}
-use Rattle.cms_model.specs.Sharing.{any_within, is_kept}
+use Rattle.cms_model.specs.SharedTrees.{any_within, is_kept}
 use Rattle.cms_model.specs.SharedTiers.{group, Names, SharedTier, Shared, top_of, SharedStands}
 use Rattle.cms_model.proofs.Quotients.{up_spec, up_zero, up_some, up_more, up_up}
-use Rattle.cms_model.proofs.Sharing.{within_has, within_met}
+use Rattle.cms_model.proofs.SharedTrees.{within_has, within_met}
 use Rattle.cms_model.proofs.TreeSizes.{length-pointers}
 
 clash : true ≡ false → ⊥

@@ -6,7 +6,7 @@ use Rattle.cms_fields.specs.Numbers.{up}
 use Rattle.cms_model.specs.Lists.{times}
 use Rattle.cms_model.specs.Trees.{Image, Form}
 use Rattle.cms_model.specs.ByLevels.{Heaped}
-use Rattle.cms_model.specs.Sharing.{is_kept, fresh_on}
+use Rattle.cms_model.specs.SharedTrees.{is_kept, fresh_on}
 use Rattle.cms_model.specs.SharedTiers.{Shared}
 use Rattle.cms_model.specs.SharedTimes.{without, came, gone, SharedTimes, LeavesTimes, CameIsFresh}
 use Rattle.cms_model.proofs.Quotients.{up_up}

@@ -19,7 +19,7 @@ use Rattle.cms_model.specs.Volumes.{Disk, entries_of, first_twice, file_trees, b
 use Rattle.cms_model.specs.Sizes.{levels_from, levels, pointers_to, pointer_count, tree_size, stored_size, file_size, directory_more, map_size, used_count, free_count}
 use Rattle.cms_model.specs.declared.fault.OpenFault.TheVariants as failed
 use Rattle.cms_model.specs.DirectoryParts.{blocks_with, directory_taken}
-use Rattle.cms_model.specs.Sharing.{any_within, fresh_count, fresh_on, fresh_to, is_kept}
+use Rattle.cms_model.specs.SharedTrees.{any_within, fresh_count, fresh_on, fresh_to, is_kept}
 use Rattle.cms_model.specs.Changes.{Put, Drop, entries_made, place_named, put_file, last_first, drop_file, changed_files, written_file, need, is_full, limit, Full, Changed, answer_of, changed}
 
 -- ---- the image: blocks of 512 bytes, of which the zeros at the end are left out

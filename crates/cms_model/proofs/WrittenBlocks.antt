@@ -4,9 +4,9 @@ use Rattle.std.specs.Prelude.{◌==◌, ◌&&◌}
 use Rattle.std.specs.List.Sorted.{IsStrictlyIncreasing}
 use Rattle.std.proofs.lemmas.Bool.{cases_Bool, cases_lt, cases_eq, eq-eqb, eqb-true, false_from_ne_true}
 use Rattle.cms_model.specs.Lists.{In, holds, times}
-use Rattle.cms_model.specs.Sharing.{MayBeWritten, any_within, fresh_on, is_kept}
+use Rattle.cms_model.specs.SharedTrees.{MayBeWritten, any_within, fresh_on, is_kept}
 use Rattle.cms_model.proofs.Repeats.{bit, hit, miss, held, held_from, in_from, in_held}
-use Rattle.cms_model.proofs.Sharing.{within_has, within_met}
+use Rattle.cms_model.proofs.SharedTrees.{within_has, within_met}
 
 clash : true ≡ false → ⊥
 clash e = cc

@@ -4,7 +4,7 @@ use Rattle.std.specs.Prelude.{ℕ, ◌+◌, ◌-◌, ◌*◌, ◌/◌, List, map
 use Rattle.std.specs.List.{filter, range_with_len}
 use Rattle.cms_fields.specs.Numbers.{up}
 use Rattle.cms_model.specs.Lists.{holds}
-use Rattle.cms_model.specs.Sharing.{fresh_count, released_count}
+use Rattle.cms_model.specs.SharedTrees.{fresh_count, released_count}
 
 -- the data block in which the entry of a number stands, from 0; that of the first file has number 2
 abbrev pub entry_block : ℕ → ℕ → ℕ

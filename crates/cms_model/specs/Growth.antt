@@ -4,7 +4,7 @@ use Rattle.std.specs.List.{range_with_len}
 use Rattle.cms_names.specs.declared.name.Format.{Format}
 use Rattle.cms_fields.specs.Entries.{fan_of}
 use Rattle.cms_fields.specs.Numbers.{up}
-use Rattle.cms_model.specs.Sharing.{fresh_count, released_count}
+use Rattle.cms_model.specs.SharedTrees.{fresh_count, released_count}
 
 -- of a file of so many stored bytes, which has `count` data blocks then, the places of those that are written: that which the bytes fill
 -- in part, and those behind it

@@ -9,7 +9,7 @@ use Rattle.cms_model.specs.Changes.{Change, Put, Add, Drop, Rename, Relabel, Cen
 use Rattle.cms_model.specs.DirectoryParts.{directory_count, directory_released}
 use Rattle.cms_model.specs.Growth.{growth_given}
 use Rattle.cms_model.specs.LawsChanges.{IsPlace, NoneNamed}
-use Rattle.cms_model.specs.Sharing.{MayBeWritten}
+use Rattle.cms_model.specs.SharedTrees.{MayBeWritten}
 
 -- the place of a name is that of its file, or behind the last
 pub record IsPlaceNamed (name : Name) (files : List File) : Type 0 where

@@ -6,7 +6,7 @@ pub mod Minidisks
 pub mod Systems
 pub mod Volumes
 pub mod Sizes
-pub mod Sharing
+pub mod SharedTrees
 pub mod DirectoryParts
 pub mod Growth
 pub mod Changes

@@ -12,7 +12,7 @@ ghost use Rattle.cms_model.specs.LawsUpdates.{AfterIsTold, ApartIsKept, AsideIsA
 ghost use Rattle.cms_model.specs.LawsVolumes.{DiskIsLookedAt, NoLabelIsNone, OpenedIsInOrder, OpensWhereHeld, RestsOnFrame, StateIsMinidisk};
 ghost use Rattle.cms_model.specs.SharedTiers.{SharedStands};
 ghost use Rattle.cms_model.specs.SharedTimes.{CameIsFresh, LeavesTimes, SharedTimes};
-ghost use Rattle.cms_model.specs.Sharing.{AllIsWhole, BehindIsWritten, SizeIsExchanged, TakesItsSize, TakesNoMore};
+ghost use Rattle.cms_model.specs.SharedTrees.{AllIsWhole, BehindIsWritten, SizeIsExchanged, TakesItsSize, TakesNoMore};
 ghost use Rattle.cms_model.specs.Stands.{OpenedIsMinidisk, OpenedStands, RenewedStands, StandsOpens};
 
 /// Records and the bytes that hold them: what is joined is cut again, and a valid file has at least one.

@@ -9,10 +9,10 @@ use Rattle.cms_line.specs.declared.choices.OptionFault.{OptionFault}
 use Rattle.cms_line.specs.declared.choices.OptionRule.{OptionRule}
 use Rattle.cms_line.specs.declared.token.Token.{Token}
 use Rattle.cms_operands.specs.Choices.{AnswersLine, without_options, all_valued, chosen_of, no_forms, read_by, refusal_of, rule_of, unless_refused, valued}
-use Rattle.cms_operands.specs.declared.choosing.ChosenOption.{ChosenOption}
-use Rattle.cms_operands.specs.declared.choosing.CommandFault.{CommandFault}
-use Rattle.cms_operands.specs.declared.choosing.CommandFault.TheVariants as line
-use Rattle.cms_operands.specs.declared.choosing.OptionForm.{OptionForm}
+use Rattle.cms_operands.specs.declared.options.ChosenOption.{ChosenOption}
+use Rattle.cms_operands.specs.declared.options.CommandFault.{CommandFault}
+use Rattle.cms_operands.specs.declared.options.CommandFault.TheVariants as line
+use Rattle.cms_operands.specs.declared.options.OptionForm.{OptionForm}
 use Rattle.cms_operands.specs.declared.refusal.Refusal.{Refusal}
 
 -- behind options that were read

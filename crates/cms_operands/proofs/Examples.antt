@@ -12,10 +12,10 @@ use Rattle.cms_line.specs.declared.token.Token.{Token}
 use Rattle.cms_line.specs.Tokens.{tokens_from, tokens_of}
 use Rattle.cms_operands.specs.Choices.{all_valued, chosen_of, columns_in, fill_in, flag, form, format_in, valued, setting_in}
 use Rattle.cms_operands.specs.Operands.{access_mode, access_mode_in, device, device_of, device_or_letter, ended, given, given_or, hexadecimal_of, name, needed, number, number_within, operands_of, reading_mode}
-use Rattle.cms_operands.specs.declared.choosing.ChosenOption.{ChosenOption}
-use Rattle.cms_operands.specs.declared.choosing.OptionForm.{OptionForm}
-use Rattle.cms_operands.specs.declared.choosing.Parameter.TheVariants as takes
-use Rattle.cms_operands.specs.declared.choosing.Setting.TheVariants as setting
+use Rattle.cms_operands.specs.declared.options.ChosenOption.{ChosenOption}
+use Rattle.cms_operands.specs.declared.options.OptionForm.{OptionForm}
+use Rattle.cms_operands.specs.declared.options.Parameter.TheVariants as takes
+use Rattle.cms_operands.specs.declared.options.Setting.TheVariants as setting
 use Rattle.cms_operands.specs.declared.operand.Target.TheVariants as target
 use Rattle.cms_operands.specs.declared.refusal.Refusal.{Refusal}
 use Rattle.cms_operands.specs.declared.refusal.Refusal.TheVariants.{BadMode, BadName, BadOperand, BadParameter, Missing, UnknownOption}

@@ -14,14 +14,14 @@ use Rattle.cms_line.specs.declared.token.Token.{Token}
 use Rattle.cms_operands.specs.Operands.{hexadecimal_of, number_in, number_within, or_refused}
 use Rattle.cms_operands.specs.Refusals.{text_at}
 use Rattle.cms_text.specs.Texts.{coded}
-use Rattle.cms_operands.specs.declared.choosing.ChosenOption.{ChosenOption}
-use Rattle.cms_operands.specs.declared.choosing.CommandFault.{CommandFault}
-use Rattle.cms_operands.specs.declared.choosing.CommandFault.TheVariants as line
-use Rattle.cms_operands.specs.declared.choosing.OptionForm.{OptionForm}
-use Rattle.cms_operands.specs.declared.choosing.Parameter.{Parameter}
-use Rattle.cms_operands.specs.declared.choosing.Parameter.TheVariants as takes
-use Rattle.cms_operands.specs.declared.choosing.Setting.{Setting}
-use Rattle.cms_operands.specs.declared.choosing.Setting.TheVariants as setting
+use Rattle.cms_operands.specs.declared.options.ChosenOption.{ChosenOption}
+use Rattle.cms_operands.specs.declared.options.CommandFault.{CommandFault}
+use Rattle.cms_operands.specs.declared.options.CommandFault.TheVariants as line
+use Rattle.cms_operands.specs.declared.options.OptionForm.{OptionForm}
+use Rattle.cms_operands.specs.declared.options.Parameter.{Parameter}
+use Rattle.cms_operands.specs.declared.options.Parameter.TheVariants as takes
+use Rattle.cms_operands.specs.declared.options.Setting.{Setting}
+use Rattle.cms_operands.specs.declared.options.Setting.TheVariants as setting
 use Rattle.cms_operands.specs.declared.refusal.Refusal.{Refusal}
 use Rattle.cms_operands.specs.declared.refusal.Refusal.TheVariants.{BadOperand, Missing, UnknownOption, BadParameter}
 

@@ -2,16 +2,12 @@
 //! them. Nothing here knows the machine or a disk.
 #![tactic(auto)]
 
-mod choosing;
 mod mode;
 mod operand;
 mod optional;
+mod options;
 mod refusal;
 
-pub use choosing::{
-    ChosenOption, ChosenOptions, CommandFault, OptionForm, Parameter, Setting, chosen_options,
-    without_options,
-};
 pub use cms_text::coded;
 pub use mode::ReadMode;
 pub use operand::{
@@ -22,5 +18,9 @@ pub use operand::{
 pub use optional::{
     access_mode_or_a, device_or, given_letter_or_all, given_number_or_all, number_or,
     pattern_or_all, reading_mode_or_a, writing_mode_or_a,
+};
+pub use options::{
+    ChosenOption, ChosenOptions, CommandFault, OptionForm, Parameter, Setting, chosen_options,
+    without_options,
 };
 pub use refusal::Refusal;

@@ -1,7 +1,7 @@
 pub mod Lengths
-pub mod Scanning
-pub mod Starting
-pub mod Feeding
+pub mod Scans
+pub mod Starts
+pub mod Feeds
 pub mod FirstTold
-pub mod Reading
-pub mod Extending
+pub mod StoredRecords
+pub mod RecordsBehind

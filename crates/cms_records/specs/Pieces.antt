@@ -7,7 +7,7 @@ use Rattle.cms_model.specs.declared.fault.VarFault.TheVariants.{Zero, PastEnd}
 
 -- a record that is begun: the length of all records where they have one, the greatest length, the place at which it begins among all
 -- bytes that came, those of its bytes that came, with its length where it has one of its own, and whether it is whole
-pub record Begun : Type 0 where
+pub record RecordState : Type 0 where
   pub fixed : Option ℕ
   pub longest : ℕ
   pub place : ℕ
@@ -15,11 +15,11 @@ pub record Begun : Type 0 where
   pub whole : Bool
 
 -- the bytes of the record that is read next, and its place: behind a whole one a new one begins
-abbrev pub bytes_so_far : Begun → List ℕ
+abbrev pub bytes_so_far : RecordState → List ℕ
 bytes_so_far s = if s.whole then [] else s.bytes
 
 -- where the next record begins
-abbrev pub next_place : Begun → ℕ
+abbrev pub next_place : RecordState → ℕ
 next_place s = if s.whole then s.place + length s.bytes else s.place
 
 -- how many bytes a record has that begins these, with those of its length, where they tell it; or what is wrong with its length
@@ -48,7 +48,7 @@ IsPart (Ok (Some n)) true bytes = length bytes ≡ n
 IsPart (Err why) whole bytes = whole ≡ false
 
 -- more bytes came: so many of them were taken, and the record is whole or not
-pub record Takes (old new : Begun) (more : List ℕ) (taken : ℕ) (whole : Bool) : Type 0 where
+pub record Takes (old new : RecordState) (more : List ℕ) (taken : ℕ) (whole : Bool) : Type 0 where
   pub size : Option ℕ
   pub size_is : record_size old.fixed old.longest (next_place old) (bytes_so_far old ++ more) ≡ Ok size
   pub bytes : new.bytes ≡ record_bytes size (bytes_so_far old ++ more)

@@ -24,7 +24,7 @@ sizes_in bsize count bytes = varying bsize count 0 bytes >>= λ records. Ok (siz
 -- how far the bytes were read: so many records are left, the next one begins at a place, its length where that is known, and the
 -- first byte of its length where that alone came; how many bytes came, the length of the longest before, and where the first record begins
 -- in the data block in which the last of those before does
-pub record Scan : Type 0 where
+pub record VarScan : Type 0 where
   pub bsize : ℕ
   pub left : ℕ
   pub place : ℕ
@@ -59,7 +59,7 @@ pub record Began (count bsize left place : ℕ) (first : Option ℕ) (bytes : Li
   pub first_is : IsFirst bsize places first
 
 -- whatever bytes come behind these, what is told of all is told of the records before and of those that are left
-pub record Holds (count : ℕ) (bytes : List ℕ) (s : Scan) : Type 0 where
+pub record Holds (count : ℕ) (bytes : List ℕ) (s : VarScan) : Type 0 where
   pub fed : s.fed ≡ length bytes
   pub within : s.place ≤ length bytes
   pub comes : (rest : List ℕ) → sizes_in s.bsize count (bytes ++ rest)
@@ -73,7 +73,7 @@ EndWithin bytes place high None = (length bytes ≡ place) ⊎ ((length bytes �
 EndWithin bytes place high (Some n) = length bytes < place + 2 + n
 
 -- these bytes came, of so many records, and all records that end in them were passed
-pub record IsFed (count : ℕ) (bytes : List ℕ) (s : Scan) : Type 0 where
+pub record IsFed (count : ℕ) (bytes : List ℕ) (s : VarScan) : Type 0 where
   pub holds : Holds count bytes s
   pub waits : (s.left ≡ 0) ⊎ EndWithin bytes s.place s.high s.size
 
@@ -83,7 +83,7 @@ IsPast bytes place high None = (length bytes ≤ place) ⊎ ((length bytes ≡ p
 IsPast bytes place high (Some n) = length bytes ≤ place + 2 + n
 
 -- so far the bytes hold records, as the scan tells them
-abbrev pub Passes : List ℕ → Scan → Type 0
+abbrev pub Passes : List ℕ → VarScan → Type 0
 Passes bytes s = IsPast bytes s.place s.high s.size
 
 -- so many bytes came, and the next record isn't whole in them

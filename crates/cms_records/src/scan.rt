@@ -1,7 +1,7 @@
 // Records of varying lengths, checked as their bytes come.
 ghost use Rattle.std.specs.Prelude.{◌≡◌, ◌⊎◌, ℕ, List, Option, ◌+◌, ◌*◌, ◌≤◌, ◌<◌, ◌++◌, [], None, Some, true, false, length, drop, slice_index, IfOk, IfErr, IfNone, IfSome, OnOk, Ok, Err};
 ghost use Rattle.cms_text.specs.Bytes.{half};
-ghost use Rattle.cms_records.specs.Scans.{Scan, sizes_in, Holds, Passes, IsCut, IsFed};
+ghost use Rattle.cms_records.specs.Scans.{sizes_in, Holds, Passes, IsCut, IsFed};
 ghost use Rattle.cms_fields.specs.Limits.{longest_record, most_bytes};
 ghost use Rattle.cms_model.specs.Records.{varying};
 ghost use Rattle.cms_records.specs.Scans.{filled_by};
@@ -32,9 +32,9 @@ pub struct VarScan {
 impl Model for VarScan {
     ghost use Rattle.std.specs.Prelude.{◌≤◌, ◌<◌, ◌^◌, IfSome};
     ghost use Rattle.cms_fields.specs.Limits.{longest_record, most_bytes};
-    ghost use Rattle.cms_records.specs.Scans.{Scan};
+    ghost use Rattle.cms_records.specs.Scans as scans;
 
-    ghost Value = { Scan };
+    ghost Value = { scans.VarScan };
 
     ghost view = { λ s. record {
       bsize = s.bsize;

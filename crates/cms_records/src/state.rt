@@ -2,7 +2,7 @@
 ghost use Rattle.std.specs.Prelude.{◌≡◌, ℕ, ◌+◌, ◌-◌, ◌≤◌, ◌++◌, [], Some, true, false, max, length, vec_capacity, take, drop, IfOk, IfErr, IfSome, OnErr, OnOk, Ok, Err};
 ghost use Rattle.cms_text.specs.Bytes.{half};
 ghost use Rattle.cms_fields.specs.Limits.{longest_record, most_bytes};
-ghost use Rattle.cms_records.specs.Pieces.{Begun, Takes, record_size, bytes_so_far, next_place, text_in};
+ghost use Rattle.cms_records.specs.Pieces.{Takes, record_size, bytes_so_far, next_place, text_in};
 
 use crate::VarFault;
 use cms_text::bytes::{after, half_at};
@@ -32,9 +32,9 @@ pub struct RecordState {
 }
 
 impl Model for RecordState {
-    ghost use Rattle.cms_records.specs.Pieces.{Begun};
+    ghost use Rattle.cms_records.specs.Pieces as spec;
 
-    ghost Value = { Begun };
+    ghost Value = { spec.RecordState };
 
     ghost use Rattle.cms_records.specs.States.{AreSound};
 

@@ -3,13 +3,13 @@ use Rattle.std.proofs.Common.{◌≡◌, List, Result, Ok, Err, refl, ap, subst,
 use Rattle.cms_machine.specs.Acts.{Act, Done, bind}
 use Rattle.cms_machine.specs.Objects.{Object}
 use Rattle.cms_machine.specs.Slots.{Slot}
-use Rattle.cms_machine.proofs.Asking.{broke_beside, ran_beside}
+use Rattle.cms_machine.proofs.ObjectsAsked.{broke_beside, ran_beside}
 use Rattle.cms_search.specs.Calls.{Acts, Meaning, Spot, SpotWith, at}
 use Rattle.cms_search.specs.declared.state.End.{End}
 use Rattle.cms_search.specs.declared.state.State.{State}
 use Rattle.cms_world.specs.Seen.{Seen}
 use Rattle.cms_search.proofs.Acts.{acts_done, acts_stop, comes_in, comes_same, comes_then}
-use Rattle.exec2_run.specs.State.{Procedure}
+use Rattle.exec2_run.specs.State.{Exec}
 use Rattle.cms_cards.specs.PunchedCards.{Decks}
 use Rattle.cms_rounds.specs.Calls.{passed_beside, passed_with, round_with}
 use Rattle.cms_rounds.specs.Decks.{leaving_decks}
@@ -58,7 +58,7 @@ pub leaves_off : {A B T U : Type 0} {os : List Object} (old new : SpotWith os) (
 leaves_off old new t f e d d' acts = acts_stop old new t (λ a. Done (f a)) e d d' (acts_alone old new t (Err e) d acts)
 
 -- the round of what procedures do by themselves
-pub left : {os : List Object} (old new : SpotWith os) (t : List Slot → Act Round) (r : Result rounds.Round End) (qs : List Procedure)
+pub left : {os : List Object} (old new : SpotWith os) (t : List Slot → Act Round) (r : Result rounds.Round End) (qs : List Exec)
     → Acts (alone old) (alone new) t r (round_with new.state qs) → Acts old new (λ units. leaving os (t units)) r (passed_with new.state qs os)
 left {os = os} old new t (Ok x) qs acts = leaves_so old new t (passed os) x (round_with new.state qs) x (passed_with new.state qs os) acts (λ units. refl)
 left {os = os} old new t (Err e) qs acts =
@@ -79,7 +79,7 @@ decked {A = A} old new decks t (Err e) d a =
     acts_stop old new t (λ (y : A). with_decks decks y) e d (λ units y. (d units y, decks)) a
 
 -- the round of what procedures do by themselves
-pub left_decked : {os : List Object} (old new : SpotWith os) (decks kept : Decks) (t : List Slot → Act Round) (r : Result rounds.Round End) (qs : List Procedure) → kept ≡ decks
+pub left_decked : {os : List Object} (old new : SpotWith os) (decks kept : Decks) (t : List Slot → Act Round) (r : Result rounds.Round End) (qs : List Exec) → kept ≡ decks
     → Acts (alone old) (alone new) t r (round_with new.state qs) → Acts old new (λ units. leaving_decks decks (leaving os (t units))) r (passed_beside new.state kept qs os)
 left_decked {os = os} old new decks kept t r qs same acts =
     subst (λ (ds : Decks). Acts old new (λ units. leaving_decks decks (leaving os (t units))) r (passed_beside new.state ds qs os)) (sym same)

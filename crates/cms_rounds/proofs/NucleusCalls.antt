@@ -10,8 +10,8 @@ use Rattle.cms_line.specs.declared.message.Message.TheVariants.{M122}
 use Rattle.cms_line.specs.declared.token.Token.{Token}
 use Rattle.cms_operands.specs.Choices.{AnswersLine}
 use Rattle.cms_operands.specs.Refusals.{code_of, message_of}
-use Rattle.cms_operands.specs.declared.choosing.CommandFault.{CommandFault}
-use Rattle.cms_operands.specs.declared.choosing.CommandFault.TheVariants as fault
+use Rattle.cms_operands.specs.declared.options.CommandFault.{CommandFault}
+use Rattle.cms_operands.specs.declared.options.CommandFault.TheVariants as fault
 use Rattle.cms_operands.specs.declared.refusal.Refusal.{Refusal}
 use Rattle.cms_search.specs.Calls.{Acts, Does, SpotWith, at, course_of, machine_of, refusal_tree, said, spot_at}
 use Rattle.cms_search.specs.LineRefused.{RefusesLine}

@@ -24,11 +24,11 @@ use Rattle.cms_search.proofs.Acts.{acts_talks, comes_then, comes_in, comes_same,
 use Rattle.cms_search.proofs.Talks.{Came, came_none, came_to, took, stayed}
 use Rattle.cms_search.proofs.Turns.{cut_talks, done_talks, talks_kept}
 use Rattle.cms_search.proofs.Unread.{comes_unread}
-use Rattle.cms_search.specs.Tables.{Accesses, without_readings}
+use Rattle.cms_search.specs.Tables.{AccessTable, without_readings}
 use Rattle.cms_world.specs.Seen.{Seen}
 use Rattle.cms_ext.specs.Calls.{desk_of}
 use Rattle.cms_ext.specs.Extensions.{desk}
-use Rattle.exec2_run.specs.State.{Procedure}
+use Rattle.exec2_run.specs.State.{Exec}
 use Rattle.cms_cards.specs.PunchedCards.{Decks}
 use Rattle.cms_rounds.specs.Rounds.{line_round, on_turn, on_taken, round, run_item}
 use Rattle.cms_rounds.specs.Procedures.{Passed, Round, Ready, ended, readied, statement}
@@ -80,20 +80,20 @@ not_taken old new e none st faults edges kept cause =
 
 -- ---- the ready line
 
-abbrev pub ready_on : State → List Procedure → ℤ → List Slot → Act Round
+abbrev pub ready_on : State → List Exec → ℤ → List Slot → Act Round
 ready_on s ps code units = readied (record { machine = machine_of s units; procedures = ps }) code
 
-abbrev ready_behind : State → List Procedure → List Slot → Unit {0} → Act Round
+abbrev ready_behind : State → List Exec → List Slot → Unit {0} → Act Round
 ready_behind s ps units y = Done (Ready (record { machine = record (machine_of s units) { places = empty }; procedures = ps }))
 
-pub readied_so : (old new : Spot) (ps : List Procedure) (code : ℤ) (x : Unit {0}) → Does old.world new.world (saying (typed_line (ready_line code))) (Ok x) itself
+pub readied_so : (old new : Spot) (ps : List Exec) (code : ℤ) (x : Unit {0}) → Does old.world new.world (saying (typed_line (ready_line code))) (Ok x) itself
     → new.state ≡ record old.state { places = empty } → Acts old new (ready_on old.state ps code) (Ok end.Ready) (round_with new.state ps)
 readied_so old new ps code x does kept =
     done_talks old new (saying (typed_line (ready_line code))) (ready_behind old.state ps) x itself end.Ready (round_with new.state ps)
     (ap (λ (s : State). s.table) kept) (talks_kept old new (saying (typed_line (ready_line code))) (Ok x) itself (ap (λ (s : State). s.console) kept) does)
     (λ units. let machine : machine_of new.state units ≡ record (machine_of old.state units) { places = empty } = ap (λ (s : State). machine_of s units) kept in rw machine refl)
 
-pub ready_stops : (old new : Spot) (ps qs : List Procedure) (code : ℤ) (e : End) → Does {T = Unit {0}} old.world new.world (saying (typed_line (ready_line code))) (Err e) itself
+pub ready_stops : (old new : Spot) (ps qs : List Exec) (code : ℤ) (e : End) → Does {T = Unit {0}} old.world new.world (saying (typed_line (ready_line code))) (Err e) itself
     → new.state ≡ old.state → Acts {T = rounds.Round} old new (ready_on old.state ps code) (Err e) (round_with new.state qs)
 ready_stops old new ps qs code e does kept =
     cut_talks {T = Unit {0}} {U = rounds.Round} old new (saying (typed_line (ready_line code))) (ready_behind old.state ps) e itself
@@ -101,16 +101,16 @@ ready_stops old new ps qs code e does kept =
     (talks_kept {T = Unit {0}} old new (saying (typed_line (ready_line code))) (Err e) itself (ap (λ (s : State). s.console) kept) does)
 
 -- no disk keeps a reading any more, in front of the line
-abbrev without_readings_of : Spot → Accesses → Spot
+abbrev without_readings_of : Spot → AccessTable → Spot
 without_readings_of old t = record { world = old.world; state = record old.state { table = t } }
 
-drops : (old : Spot) (t : Accesses) (ps : List Procedure) (code : ℤ) → t ≡ without_readings old.state.table
+drops : (old : Spot) (t : AccessTable) (ps : List Exec) (code : ℤ) → t ≡ without_readings old.state.table
     → Comes old (without_readings_of old t) (ready_on old.state ps code) (ready_on (without_readings_of old t).state ps code)
 drops old t ps code is =
     comes_unread old (without_readings_of old t) (λ (m : Machine). readied (record { machine = m; procedures = ps }) code) refl
-    (ap (λ (x : Accesses). record old.state { table = x }) is)
+    (ap (λ (x : AccessTable). record old.state { table = x }) is)
 
-pub readied_dropped : (old new : Spot) (ps : List Procedure) (code : ℤ) (x : Unit {0}) (t : Accesses) → t ≡ without_readings old.state.table
+pub readied_dropped : (old new : Spot) (ps : List Exec) (code : ℤ) (x : Unit {0}) (t : AccessTable) → t ≡ without_readings old.state.table
     → Does old.world new.world (saying (typed_line (ready_line code))) (Ok x) itself → new.state ≡ record old.state { table = t; places = empty }
     → Acts old new (ready_on old.state ps code) (Ok end.Ready) (round_with new.state ps)
 readied_dropped old new ps code x t is does kept =
@@ -118,7 +118,7 @@ readied_dropped old new ps code x t is does kept =
     acts_after old mid new (ready_on old.state ps code) (ready_on mid.state ps code) (Ok end.Ready) (round_with new.state ps) (drops old t ps code is)
     (readied_so mid new ps code x does kept)
 
-pub ready_dropped : (old new : Spot) (ps qs : List Procedure) (code : ℤ) (e : End) (t : Accesses) → t ≡ without_readings old.state.table
+pub ready_dropped : (old new : Spot) (ps qs : List Exec) (code : ℤ) (e : End) (t : AccessTable) → t ≡ without_readings old.state.table
     → Does {T = Unit {0}} old.world new.world (saying (typed_line (ready_line code))) (Err e) itself → new.state ≡ record old.state { table = t }
     → Acts {T = rounds.Round} old new (ready_on old.state ps code) (Err e) (round_with new.state qs)
 ready_dropped old new ps qs code e t is does kept =
@@ -138,10 +138,10 @@ module _ (os : List Object) (decks : Decks) where
   abbrev pub HasTaken : SpotWith os → SpotWith os → Option Taken → Type 0
   HasTaken old mid item = Acts (alone old) (alone mid) (taking_tree old.state) (Ok item) (beside mid.state (option_map item_in))
 
-  abbrev pub line_round_on : State → List Procedure → List Slot → Act (Passed × Decks)
+  abbrev pub line_round_on : State → List Exec → List Slot → Act (Passed × Decks)
   line_round_on s ps units = line_round (desk_of s os units) decks ps
 
-  pub take_stops : (old new : SpotWith os) (ps qs : List Procedure) (e : End)
+  pub take_stops : (old new : SpotWith os) (ps qs : List Exec) (e : End)
       → Acts {T = Option Taken} (alone old) (alone new) (taking_tree old.state) (Err e) (beside new.state (option_map item_in))
       → Acts {T = rounds.Round} old new (line_round_on old.state ps) (Err e) (passed_beside new.state decks qs os)
   take_stops old new ps qs e a =
@@ -149,41 +149,41 @@ module _ (os : List Object) (decks : Decks) where
       (acts_alone {T = Option Taken} old new (taking_tree old.state) (Err e) (beside new.state (option_map item_in)) a)
 
   -- what follows, with the machine that is left
-  abbrev taken_tree : State → List Procedure → Option Taken → List Slot → Act (Passed × Decks)
+  abbrev taken_tree : State → List Exec → Option Taken → List Slot → Act (Passed × Decks)
   taken_tree s ps item units = on_taken os decks ps (machine_of s units, option_map item_in item)
 
-  was_taken : (old mid : SpotWith os) (ps : List Procedure) (item : Option Taken) → HasTaken old mid item
+  was_taken : (old mid : SpotWith os) (ps : List Exec) (item : Option Taken) → HasTaken old mid item
       → Comes old mid (line_round_on old.state ps) (taken_tree mid.state ps item)
   was_taken old mid ps item a =
       comes_in old mid (taking_tree old.state) (on_taken os decks ps) item (beside mid.state (option_map item_in))
       (acts_alone old mid (taking_tree old.state) (Ok item) (beside mid.state (option_map item_in)) a)
 
-  pub finished_so : (old new : SpotWith os) (ps qs : List Procedure) → HasTaken old new None
+  pub finished_so : (old new : SpotWith os) (ps qs : List Exec) → HasTaken old new None
       → Acts old new (line_round_on old.state ps) (Ok (end.Ended finish.AtEnd)) (passed_beside new.state decks qs os)
   finished_so old new ps qs a =
       acts_done old new (line_round_on old.state ps) (end.Ended finish.AtEnd) (passed_beside new.state decks qs os) (was_taken old new ps None a)
 
-  abbrev turn_tree : State → List Procedure → Item → ℕ → List Slot → Act (Passed × Decks)
+  abbrev turn_tree : State → List Exec → Item → ℕ → List Slot → Act (Passed × Decks)
   turn_tree s ps item left units = on_turn (desk_of s os units) decks ps item left
 
   -- with so many turns left
-  taken_with : (old mid : SpotWith os) (ps : List Procedure) (item : Taken) (n : ℕ) → HasTaken old mid (Some item) → mid.state.left ≡ n
+  taken_with : (old mid : SpotWith os) (ps : List Exec) (item : Taken) (n : ℕ) → HasTaken old mid (Some item) → mid.state.left ≡ n
       → Comes old mid (line_round_on old.state ps) (turn_tree mid.state ps (item_in item) n)
   taken_with old mid ps item n a left =
       subst (λ (k : ℕ). Comes old mid (line_round_on old.state ps) (turn_tree mid.state ps (item_in item) k)) left (was_taken old mid ps (Some item) a)
 
-  pub no_turns : (old new : SpotWith os) (ps qs : List Procedure) (item : Taken) → HasTaken old new (Some item) → new.state.left ≡ 0
+  pub no_turns : (old new : SpotWith os) (ps qs : List Exec) (item : Taken) → HasTaken old new (Some item) → new.state.left ≡ 0
       → Acts old new (line_round_on old.state ps) (Ok (end.Ended finish.AtTurns)) (passed_beside new.state decks qs os)
   no_turns old new ps qs item a none =
       acts_done old new (line_round_on old.state ps) (end.Ended finish.AtTurns) (passed_beside new.state decks qs os) (taken_with old new ps item 0 a none)
 
-  abbrev then_item : List Procedure → Item → Machine → Act (Passed × Decks)
+  abbrev then_item : List Exec → Item → Machine → Act (Passed × Decks)
   then_item ps item m = run_item (desk m os) decks ps item
 
-  abbrev pub item_on : State → List Procedure → Item → List Slot → Act (Passed × Decks)
+  abbrev pub item_on : State → List Exec → Item → List Slot → Act (Passed × Decks)
   item_on s ps item units = run_item (desk_of s os units) decks ps item
 
-  pub turn_stops : (old mid new : SpotWith os) (ps qs : List Procedure) (n : ℕ) (item : Taken) (e : End) → HasTaken old mid (Some item) → mid.state.left ≡ suc n
+  pub turn_stops : (old mid new : SpotWith os) (ps qs : List Exec) (n : ℕ) (item : Taken) (e : End) → HasTaken old mid (Some item) → mid.state.left ≡ suc n
       → Acts {T = Unit {0}} (alone mid) (alone new) (turning_tree mid.state n) (Err e) (machine_now new.state)
       → Acts {T = rounds.Round} old new (line_round_on old.state ps) (Err e) (passed_beside new.state decks qs os)
   turn_stops old mid new ps qs n item e taken some a =
@@ -193,7 +193,7 @@ module _ (os : List Object) (decks : Decks) where
       (acts_alone {T = Unit {0}} mid new (turning_tree mid.state n) (Err e) (machine_now new.state) a))
 
   -- what it asks for was done
-  pub item_done : (b : List Object) (kept : Decks) (old mid begun : SpotWith os) (new : SpotWith b) (ps qs : List Procedure) (n : ℕ) (item : Taken) (x : Unit {0}) (r : Result rounds.Round End)
+  pub item_done : (b : List Object) (kept : Decks) (old mid begun : SpotWith os) (new : SpotWith b) (ps qs : List Exec) (n : ℕ) (item : Taken) (x : Unit {0}) (r : Result rounds.Round End)
       → HasTaken old mid (Some item) → mid.state.left ≡ suc n → Acts (alone mid) (alone begun) (turning_tree mid.state n) (Ok x) (machine_now begun.state)
       → Acts begun new (item_on begun.state ps (item_in item)) r (passed_beside new.state kept qs b) → Acts old new (line_round_on old.state ps) r (passed_beside new.state kept qs b)
   item_done b kept old mid begun new ps qs n item x r taken some turn a =
@@ -209,20 +209,20 @@ module _ (os : List Object) (decks : Decks) where
 abbrev message_tree : Message → Act (Unit {0})
 message_tree message = saying (typed_line (message_text message))
 
-abbrev refused_on : State → List Procedure → Message → List Slot → Act Round
+abbrev refused_on : State → List Exec → Message → List Slot → Act Round
 refused_on s ps message units = bind (refusal_tree s message (pos 20) units) (ended ps)
 
-abbrev pub ended_on : State → List Procedure → declared.Course → List Slot → Act Round
+abbrev pub ended_on : State → List Exec → declared.Course → List Slot → Act Round
 ended_on s ps c units = ended ps (course_of s units c)
 
-pub refused_course : (old mid new : Spot) (ps qs : List Procedure) (message : Message) (c : declared.Course) (r : Result rounds.Round End)
+pub refused_course : (old mid new : Spot) (ps qs : List Exec) (message : Message) (c : declared.Course) (r : Result rounds.Round End)
     → Does old.world mid.world (message_tree message) (Ok c) said → c ≡ course.Went (pos 20) → mid.state ≡ old.state
     → Acts mid new (ended_on mid.state ps c) r (round_with new.state qs) → Acts old new (refused_on old.state ps message) r (round_with new.state qs)
 refused_course old mid new ps qs message c r does went same acts =
     acts_after old mid new (refused_on old.state ps message) (ended_on mid.state ps c) r (round_with new.state qs)
     (comes_in old mid (refusal_tree old.state message (pos 20)) (ended ps) c (course_of mid.state) (refused old mid message (pos 20) (Ok c) does went same)) acts
 
-pub refused_stop : (old new : Spot) (ps qs : List Procedure) (message : Message) (e : End) → Does {T = declared.Course} old.world new.world (message_tree message) (Err e) said
+pub refused_stop : (old new : Spot) (ps qs : List Exec) (message : Message) (e : End) → Does {T = declared.Course} old.world new.world (message_tree message) (Err e) said
     → new.state ≡ old.state → Acts {T = rounds.Round} old new (refused_on old.state ps message) (Err e) (round_with new.state qs)
 refused_stop old new ps qs message e does same =
     acts_stop old new (refusal_tree old.state message (pos 20)) (ended ps) e (course_of new.state) (round_with new.state qs)
@@ -230,20 +230,20 @@ refused_stop old new ps qs message e does same =
 
 -- ---- a round
 
-abbrev pub round_on : State → List Object → Decks → List Procedure → List Slot → Act (Passed × Decks)
+abbrev pub round_on : State → List Object → Decks → List Exec → List Slot → Act (Passed × Decks)
 round_on s os decks ps units = round (desk_of s os units) decks ps
 
 -- a procedure runs
-pub round_some : (a b : List Object) (decks kept : Decks) (old : SpotWith a) (new : SpotWith b) (ps rest qs : List Procedure) (p : Procedure) (r : Result rounds.Round End) → ps ≡ p ∷ rest
+pub round_some : (a b : List Object) (decks kept : Decks) (old : SpotWith a) (new : SpotWith b) (ps rest qs : List Exec) (p : Exec) (r : Result rounds.Round End) → ps ≡ p ∷ rest
     → Acts old new (λ units. statement (desk_of old.state a units) decks rest p) r (passed_beside new.state kept qs b)
     → Acts old new (round_on old.state a decks ps) r (passed_beside new.state kept qs b)
 round_some a b decks kept old new ps rest qs p r is acts =
-    subst (λ (l : List Procedure). Acts old new (round_on old.state a decks l) r (passed_beside new.state kept qs b)) (sym is) acts
+    subst (λ (l : List Exec). Acts old new (round_on old.state a decks l) r (passed_beside new.state kept qs b)) (sym is) acts
 
 -- or none
-pub round_none : (a b : List Object) (decks kept : Decks) (old : SpotWith a) (new : SpotWith b) (ps rest qs : List Procedure) (r : Result rounds.Round End) → ps ≡ [] → rest ≡ []
+pub round_none : (a b : List Object) (decks kept : Decks) (old : SpotWith a) (new : SpotWith b) (ps rest qs : List Exec) (r : Result rounds.Round End) → ps ≡ [] → rest ≡ []
     → Acts old new (line_round_on a decks old.state rest) r (passed_beside new.state kept qs b)
     → Acts old new (round_on old.state a decks ps) r (passed_beside new.state kept qs b)
 round_none a b decks kept old new ps rest qs r none none' acts =
-    subst (λ (l : List Procedure). Acts old new (round_on old.state a decks l) r (passed_beside new.state kept qs b)) (sym none)
-    (subst (λ (l : List Procedure). Acts old new (line_round_on a decks old.state l) r (passed_beside new.state kept qs b)) none' acts)
+    subst (λ (l : List Exec). Acts old new (round_on old.state a decks l) r (passed_beside new.state kept qs b)) (sym none)
+    (subst (λ (l : List Exec). Acts old new (line_round_on a decks old.state l) r (passed_beside new.state kept qs b)) none' acts)

@@ -11,7 +11,7 @@ use Rattle.cms_search.specs.declared.state.Course as declared
 use Rattle.cms_search.specs.declared.state.End.{End}
 use Rattle.cms_search.proofs.Acts.{acts_same}
 use Rattle.cms_ext.specs.Calls.{desk_of, ended_of}
-use Rattle.exec2_run.specs.State.{Procedure}
+use Rattle.exec2_run.specs.State.{Exec}
 use Rattle.cms_cards.specs.PunchedCards.{Decks}
 use Rattle.cms_rounds.specs.Calls.{answering, passed_beside, round_with, send_tree}
 use Rattle.cms_rounds.specs.Decks.{leaving_decks}
@@ -45,16 +45,16 @@ module _ (os : List Object) (old : SpotWith os) (word text capitals : List ℕ) 
 
 -- ---- by the newest procedure, once it is back among the others
 
-module _ (a b : List Object) (decks : Decks) (old : SpotWith a) (mid : SpotWith b) (ps : List Procedure) (word text : List ℕ) where
+module _ (a b : List Object) (decks : Decks) (old : SpotWith a) (mid : SpotWith b) (ps : List Exec) (word text : List ℕ) where
   abbrev sending : List Slot → Act (Issued × Decks)
   sending units = leaving_decks decks (bind (send_tree old.state a word text units) came)
 
-  pub sent_off : (e : End) (qs : List Procedure) → Acts {T = declared.Course} old mid (send_tree old.state a word text) (Err e) (ended_of mid.state b)
+  pub sent_off : (e : End) (qs : List Exec) → Acts {T = declared.Course} old mid (send_tree old.state a word text) (Err e) (ended_of mid.state b)
       → Acts {T = rounds.Round} old mid (λ units. bind (sending units) (answered_beside ps)) (Err e) (passed_beside mid.state decks qs b)
   sent_off e qs acts =
       issue_off a b decks old mid ps sending e qs (ran_off a b decks old mid sending (send_tree old.state a word text) (λ units h. refl) e acts)
 
-  pub sent_so : (new : SpotWith b) (rest qs : List Procedure) (c : declared.Course) (r : Result rounds.Round End) (kept : Decks) → rest ≡ ps
+  pub sent_so : (new : SpotWith b) (rest qs : List Exec) (c : declared.Course) (r : Result rounds.Round End) (kept : Decks) → rest ≡ ps
       → Acts old mid (send_tree old.state a word text) (Ok c) (ended_of mid.state b) → kept ≡ decks
       → Acts (alone mid) (alone new) (answering mid.state rest (Came c)) r (round_with new.state qs)
       → Acts old new (λ units. bind (sending units) (answered_beside ps)) r (passed_beside new.state kept qs b)

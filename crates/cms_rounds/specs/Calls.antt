@@ -16,7 +16,7 @@ use Rattle.cms_ext.specs.Calls.{desk_of, ended_of}
 use Rattle.cms_ext.specs.Extensions.{Ended}
 use Rattle.cms_exec.specs.declared.start.Started.{Started}
 use Rattle.cms_exec.specs.declared.start.Started.TheVariants as call
-use Rattle.exec2_run.specs.State.{Procedure}
+use Rattle.exec2_run.specs.State.{Exec}
 use Rattle.exec2_run.specs.declared.want.Side.{Side}
 use Rattle.exec2_run.specs.declared.want.Want.{Want}
 use Rattle.cms_cards.specs.PunchedCards.{Decks}
@@ -39,7 +39,7 @@ use Rattle.cms_rounds.specs.declared.state.Session as declared_session
 -- ---- the session of the program, as the machine's
 
 -- the procedures that run, the newest first
-abbrev pub procedures_of : declared_session.Session → List Procedure
+abbrev pub procedures_of : declared_session.Session → List Exec
 procedures_of s = s.procedures
 
 -- the decks of its reader, the first punched first
@@ -89,7 +89,7 @@ abbrev pub ready_tree : declared_session.Session → ℤ → List Slot → Act R
 ready_tree s code units = spec.readied (session_of s units) code
 
 -- whether a procedure that wants this has ended, and with which code; the message of a fault is typed
-abbrev pub over_tree : Procedure × Want → Act (Option ℤ)
+abbrev pub over_tree : Exec × Want → Act (Option ℤ)
 over_tree x = spec.over x.0 x.1
 
 -- a code goes to the newest procedure, as that of the line that it issued, or to CMS
@@ -97,43 +97,43 @@ abbrev pub give_tree : declared_session.Session → ℤ → List Slot → Act Ro
 give_tree s code units = spec.giving (procedures_of s) (machine_of s.state units) code
 
 -- a procedure above the others goes on to its next line; or it has ended, and its code goes on
-abbrev pub go_on_tree : declared_session.Session → Procedure → List Slot → Act Round
+abbrev pub go_on_tree : declared_session.Session → Exec → List Slot → Act Round
 go_on_tree s p units = spec.going_on (machine_of s.state units) (procedures_of s) p
 
 -- it does so unless it wants to end, or a fault is told: its code goes on then
-abbrev pub follow_tree : declared_session.Session → Procedure → Want → List Slot → Act Round
+abbrev pub follow_tree : declared_session.Session → Exec → Want → List Slot → Act Round
 follow_tree s p want units = spec.following (machine_of s.state units) (procedures_of s) (p, want)
 
 -- lines that it says are typed, and it goes on
-abbrev pub type_tree : declared_session.Session → Procedure → List (List ℕ) → List Slot → Act Round
+abbrev pub type_tree : declared_session.Session → Exec → List (List ℕ) → List Slot → Act Round
 type_tree s p lines units = typing lines (spec.going_on (machine_of s.state units) (procedures_of s) p)
 
 -- lines that it stacks have room, and it goes on; or none is stacked, which is a fault
-abbrev pub stack_tree : declared_session.Session → Procedure → List (List ℕ) → Side → List Slot → Act Round
+abbrev pub stack_tree : declared_session.Session → Exec → List (List ℕ) → Side → List Slot → Act Round
 stack_tree s p lines side units = spec.stacking_for (machine_of s.state units) (procedures_of s) p lines side
 
 -- a line that it asks for is taken, and it goes on; or no turn is left for one
-abbrev pub read_tree : declared_session.Session → Procedure → List Slot → Act Round
+abbrev pub read_tree : declared_session.Session → Exec → List Slot → Act Round
 read_tree s p units = bind (ask (machine_of s.state units)) (spec.given (procedures_of s) p)
 
 -- a line that it issues is done, and its code goes to it; or a procedure begins above it
-abbrev pub issued_tree : declared_session.Session → List Object → Procedure → List ℕ → List Slot → Act (Passed × Decks)
+abbrev pub issued_tree : declared_session.Session → List Object → Exec → List ℕ → List Slot → Act (Passed × Decks)
 issued_tree s objects p line units =
     bind (issued (desk_of s.state objects units) (decks_of s) (length (p ∷ (procedures_of s))) line)
     (spec.answered_beside (p ∷ (procedures_of s)))
 
 -- a text that it sends is told to the extension of a word, and the code goes to it
-abbrev pub sent_tree : declared_session.Session → List Object → Procedure → List ℕ → List ℕ → List Slot → Act (Passed × Decks)
+abbrev pub sent_tree : declared_session.Session → List Object → Exec → List ℕ → List ℕ → List Slot → Act (Passed × Decks)
 sent_tree s objects p word text units =
     bind (leaving_decks (decks_of s) (sent_line (desk_of s.state objects units) word text))
     (spec.answered_beside (p ∷ (procedures_of s)))
 
 -- whatever it wants is met
-abbrev pub meet_tree : declared_session.Session → List Object → Procedure → Want → List Slot → Act (Passed × Decks)
+abbrev pub meet_tree : declared_session.Session → List Object → Exec → Want → List Slot → Act (Passed × Decks)
 meet_tree s objects p want units = spec.meeting (desk_of s.state objects units) (decks_of s) (procedures_of s) p want
 
 -- a turn is spent, and its statement that is due is run
-abbrev pub statement_tree : declared_session.Session → List Object → Procedure → List Slot → Act (Passed × Decks)
+abbrev pub statement_tree : declared_session.Session → List Object → Exec → List Slot → Act (Passed × Decks)
 statement_tree s objects p units = spec.statement (desk_of s.state objects units) (decks_of s) (procedures_of s) p
 
 -- a line is refused
@@ -184,7 +184,7 @@ abbrev pub issued_beside : State → List Object → Decks → Meaning declared.
 issued_beside s objects decks units x = (issued_of s objects units x, decks)
 
 -- what follows what a line came to, which asks and drops no object
-abbrev pub answering : State → List Procedure → declared.Issued → List Slot → Act Round
+abbrev pub answering : State → List Exec → declared.Issued → List Slot → Act Round
 answering s ps (line.Came course) units = spec.ended ps (course_of s units course)
 answering s ps (line.Begun exec) units = spec.going_on (machine_of s units) ps exec
 
@@ -193,12 +193,12 @@ abbrev pub answer_tree : declared_session.Session → declared.Issued → List S
 answer_tree s x units = answering s.state (procedures_of s) x units
 
 -- a procedure waits above the others, but where it has ended with a code
-abbrev pub waiting : Option ℤ → Procedure → List Procedure → List Procedure
+abbrev pub waiting : Option ℤ → Exec → List Exec → List Exec
 waiting None p ps = p ∷ ps
 waiting (Some code) p ps = ps
 
 -- how a round ends, with the state and the procedures that it leaves
-abbrev pub round_with : State → List Procedure → Meaning declared_round.Round Round
+abbrev pub round_with : State → List Exec → Meaning declared_round.Round Round
 round_with s ps units (end.Ended finish) = Ends finish
 round_with s ps units end.Ready = Ready (record { machine = machine_of s units; procedures = ps })
 
@@ -207,11 +207,11 @@ abbrev pub round_of : declared_session.Session → Meaning declared_round.Round 
 round_of s units r = round_with s.state (procedures_of s) units r
 
 -- so for one that may have asked or dropped objects
-abbrev pub passed_with : State → List Procedure → List Object → Meaning declared_round.Round Passed
+abbrev pub passed_with : State → List Exec → List Object → Meaning declared_round.Round Passed
 passed_with s ps objects units r = passed objects (round_with s ps units r)
 
 -- the same beside the decks that are left
-abbrev pub passed_beside : State → Decks → List Procedure → List Object → Meaning declared_round.Round (Passed × Decks)
+abbrev pub passed_beside : State → Decks → List Exec → List Object → Meaning declared_round.Round (Passed × Decks)
 passed_beside s decks ps objects units r = (passed_with s ps objects units r, decks)
 
 -- the same of a round that left this session, with its decks

@@ -29,7 +29,7 @@ use Rattle.cms_exec.specs.Searches.{called_by, valid_name}
 use Rattle.cms_execio.specs.Execio.{execio}
 use Rattle.cms_ext.specs.Extensions.{Desk, Ended, Went, desk, run_extension}
 use Rattle.cms_ext.specs.Objects.{place_of, words_of}
-use Rattle.exec2_run.specs.State.{Procedure}
+use Rattle.exec2_run.specs.State.{Exec}
 use Rattle.exec2_run.specs.declared.exec.FileName.{FileName}
 use Rattle.cms_rounds.specs.Commands.{is_comment, request_of}
 use Rattle.cms_rounds.specs.Decks.{leaving_decks}
@@ -66,7 +66,7 @@ run_command s line words word command.Unknown = unknown s word
 -- its extension or its command has ended so, or a procedure has begun
 pub data Issued : Type 0 where
   Came : Ended → Issued
-  Begins : Desk → Procedure → Issued
+  Begins : Desk → Exec → Issued
 
 -- nothing was done, with code 0
 abbrev pub nothing_done : Desk → Act Issued

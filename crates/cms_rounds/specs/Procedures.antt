@@ -18,7 +18,7 @@ use Rattle.cms_exec.specs.Exec.{stopped_code}
 use Rattle.exec2_run.specs.Faults.{number_of_fault}
 use Rattle.exec2_run.specs.Relation.{Moved}
 use Rattle.exec2_run.specs.Steps as exec
-use Rattle.exec2_run.specs.State.{Procedure}
+use Rattle.exec2_run.specs.State.{Exec}
 use Rattle.exec2_run.specs.declared.want.Side.{Side}
 use Rattle.exec2_run.specs.declared.want.Side.TheVariants.{Front, Back}
 use Rattle.exec2_run.specs.declared.want.Want.{Want}
@@ -37,7 +37,7 @@ use Rattle.cms_rounds.specs.declared.state.Finish.TheVariants as finish
 -- the machine, and the procedures that run, the newest first
 pub record Session : Type 0 where
   pub machine : Machine
-  pub procedures : List Procedure
+  pub procedures : List Exec
 
 -- no procedure runs
 abbrev pub idle : Machine → Session
@@ -56,12 +56,12 @@ readied s code =
 -- ---- how a procedure ends
 
 -- what a call of a procedure leaves of it, and what it wants then; a fault leaves it as it was
-abbrev pub came_to : Procedure → Moved → Procedure × Want
+abbrev pub came_to : Exec → Moved → Exec × Want
 came_to p (Ok moved) = moved
 came_to p (Err failure) = (p, Failed (number_of_fault failure.0) failure.1)
 
 -- it has ended with this code, which is that of its fault behind the message; or it hasn't
-abbrev pub over : Procedure → Want → Act (Option ℤ)
+abbrev pub over : Exec → Want → Act (Option ℤ)
 over p (Ended code) = Done (Some code)
 over p (Failed number line) =
     Out (typed_line (message_text (M085 p.start.name (decimal_of line) (decimal_of number)))) (Done (Some (pos (stopped_code + number))))
@@ -80,31 +80,31 @@ unless_over give next None = next
 -- ---- between two statements
 
 -- at the moment of its last statement a procedure finds its next line, where it waits for a turn; or it has ended, and its code goes on
-abbrev pub finding : Machine → List Procedure → (ℤ → Act Round) → Procedure × Want → Act Round
+abbrev pub finding : Machine → List Exec → (ℤ → Act Round) → Exec × Want → Act Round
 finding m ps give x = bind (over x.0 x.1) (unless_over give (Done (Ready (record { machine = m; procedures = x.0 ∷ ps }))))
 
 -- a procedure that has found its next line, or has met its end or a fault, with what it wants then
-abbrev pub settled : Procedure → Procedure × Want
+abbrev pub settled : Exec → Exec × Want
 settled p = came_to p (exec.settled p.moment p)
 
 -- a code goes to the newest of these procedures, as that of the line that it issued; one that has ended so gives its own to the next, and
 -- the last gives it to CMS
-unfoldable pub giving : List Procedure → Machine → ℤ → Act Round
+unfoldable pub giving : List Exec → Machine → ℤ → Act Round
 giving [] m code = readied (idle m) code
 giving (p ∷ ps) m code = finding m ps (giving ps m) (settled (exec.code_taken p code))
 
 -- the newest procedure, above these, goes on
-abbrev pub going_on : Machine → List Procedure → Procedure → Act Round
+abbrev pub going_on : Machine → List Exec → Exec → Act Round
 going_on m ps p = finding m ps (giving ps m) (settled p)
 
 -- it goes on, but where it has ended
-abbrev pub following : Machine → List Procedure → Procedure × Want → Act Round
+abbrev pub following : Machine → List Exec → Exec × Want → Act Round
 following m ps x = bind (over x.0 x.1) (unless_over (giving ps m) (going_on m ps x.0))
 
 -- ---- what a line came to
 
 -- a command's code goes to the newest procedure, or to CMS; or no turn was left for a line that it asked for
-abbrev pub ended : List Procedure → Course → Act Round
+abbrev pub ended : List Exec → Course → Act Round
 ended ps (Went m code) = giving ps m code
 ended ps OutOfTurns = Done (Ends finish.AtTurns)
 
@@ -113,7 +113,7 @@ ended ps OutOfTurns = Done (Ends finish.AtTurns)
 -- how a round ends that may have asked or dropped objects: so that the session ends, or another may follow
 pub data Passed : Type 0 where
   Stops : Finish → Passed
-  Goes : Desk → List Procedure → Passed
+  Goes : Desk → List Exec → Passed
 
 -- how one ends that leaves these objects
 abbrev pub passed : List Object → Round → Passed
@@ -125,13 +125,13 @@ abbrev pub leaving : List Object → Act Round → Act Passed
 leaving objects t = bind t (λ r. Done (passed objects r))
 
 -- what a line came to: its code goes to the newest procedure, or to CMS; or no turn was left; or a procedure goes on that has begun
-abbrev pub answered : List Procedure → Issued → Act Passed
+abbrev pub answered : List Exec → Issued → Act Passed
 answered ps (Came (extension.Went d code)) = leaving d.objects (giving ps d.machine code)
 answered ps (Came extension.OutOfTurns) = Done (Stops finish.AtTurns)
 answered ps (Begins d p) = leaving d.objects (going_on d.machine ps p)
 
 -- the same beside the decks that the line left
-abbrev pub answered_beside : List Procedure → Issued × Decks → Act (Passed × Decks)
+abbrev pub answered_beside : List Exec → Issued × Decks → Act (Passed × Decks)
 answered_beside ps x = leaving_decks x.1 (answered ps x.0)
 
 -- ---- what a statement wants
@@ -142,19 +142,19 @@ end_of Front = end.Front
 end_of Back = end.Back
 
 -- lines are stacked; where they don't all fit none is, which is a fault
-abbrev pub stacking_for : Machine → List Procedure → Procedure → List (List ℕ) → Side → Act Round
+abbrev pub stacking_for : Machine → List Exec → Exec → List (List ℕ) → Side → Act Round
 stacking_for m ps p lines side =
     if nat_le (length m.stack + length lines) most_lines
     then going_on (record m { stack = stacked (end_of side) lines m.stack }) ps p
     else following m ps (came_to p (exec.refused p))
 
 -- a line that was asked for is taken
-abbrev pub given : List Procedure → Procedure → Asked → Act Round
+abbrev pub given : List Exec → Exec → Asked → Act Round
 given ps p (Given m line) = following m ps (came_to p (exec.line_taken p line))
 given ps p Spent = Done (Ends finish.AtTurns)
 
 -- what the newest procedure wants is met, above these
-abbrev pub meeting : Desk → Decks → List Procedure → Procedure → Want → Act (Passed × Decks)
+abbrev pub meeting : Desk → Decks → List Exec → Exec → Want → Act (Passed × Decks)
 meeting d decks ps p Next = leaving_decks decks (leaving d.objects (following d.machine ps (p, Next)))
 meeting d decks ps p (Say lines) = leaving_decks decks (leaving d.objects (typing lines (going_on d.machine ps p)))
 meeting d decks ps p (Stack lines side) = leaving_decks decks (leaving d.objects (stacking_for d.machine ps p lines side))
@@ -165,20 +165,20 @@ meeting d decks ps p (Ended code) = leaving_decks decks (leaving d.objects (foll
 meeting d decks ps p (Failed number line) = leaving_decks decks (leaving d.objects (following d.machine ps (p, Failed number line)))
 
 -- the same of a procedure with its want
-abbrev pub met : Desk → Decks → List Procedure → Procedure × Want → Act (Passed × Decks)
+abbrev pub met : Desk → Decks → List Exec → Exec × Want → Act (Passed × Decks)
 met d decks ps x = meeting d decks ps x.0 x.1
 
 -- ---- a statement
 
 -- with the turn spent, at its moment
-abbrev pub stepped : Desk → Decks → List Procedure → Procedure → Act (Passed × Decks)
+abbrev pub stepped : Desk → Decks → List Exec → Exec → Act (Passed × Decks)
 stepped d decks ps p = met d decks ps (came_to p (exec.turned d.machine.moment p))
 
 -- a turn is spent, and the statement of the newest procedure that is due is run
-abbrev pub statement_with : Desk → Decks → List Procedure → Procedure → ℕ → Act (Passed × Decks)
+abbrev pub statement_with : Desk → Decks → List Exec → Exec → ℕ → Act (Passed × Decks)
 statement_with d decks ps p zero = Done (Stops finish.AtTurns, decks)
 statement_with d decks ps p (suc left) = Turn (λ seconds. stepped (desk (turned d.machine left seconds) d.objects) decks ps p)
 
 -- the same with the turns that the machine has left
-abbrev pub statement : Desk → Decks → List Procedure → Procedure → Act (Passed × Decks)
+abbrev pub statement : Desk → Decks → List Exec → Exec → Act (Passed × Decks)
 statement d decks ps p = statement_with d decks ps p d.machine.left

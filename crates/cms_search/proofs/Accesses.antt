@@ -30,15 +30,15 @@ use Rattle.cms_disk.specs.Disks.{Accessed, IsLeft, IsMinidisk, IsOn, IsQuiet, di
 use Rattle.cms_disk.specs.declared.fault.AccessFault.{AccessFault}
 use Rattle.cms_disk.specs.declared.fault.AccessFault.TheVariants.{Sync, Open}
 use Rattle.cms_disk.specs.declared.unit.UnitInfo.{UnitInfo}
-use Rattle.cms_disk.proofs.Standing.{state_stands}
-use Rattle.cms_disk.proofs.Quieting.{firm_now}
+use Rattle.cms_disk.proofs.DisksTold.{state_stands}
+use Rattle.cms_disk.proofs.QuietUnits.{firm_now}
 use Rattle.cms_search.specs.Access.{IsOfAccess, accessing_tree, disk_for, forgetting, opened, refused_as}
 use Rattle.cms_search.specs.Calls.{Acts, Holds, IsSeatOf, IsUsable, IsUsableTable, Spot, Usable, at, beside, holds, itself, machine_of, spot_at}
 use Rattle.cms_search.specs.Held.{HoldsTable, HoldsUnit, StandsAs, disk_of as disk_of_unit}
 use Rattle.cms_search.specs.Machine.{Letter, Machine, Places, after_step}
 use Rattle.cms_search.specs.Searches.{has, item_at}
 use Rattle.cms_search.specs.Shows.{device_of}
-use Rattle.cms_search.specs.Tables.{Accesses, EndsAccess, IsTable, LooksAt, Seated, answer_for, letter_for, letters_in, marked, missing_parent, place_of_device, put_on, released, seated, table_after, told_after, unit_of_device, wanted_unit, without}
+use Rattle.cms_search.specs.Tables.{AccessTable, EndsAccess, IsTable, LooksAt, Seated, answer_for, letter_for, letters_in, marked, missing_parent, place_of_device, put_on, released, seated, table_after, told_after, unit_of_device, wanted_unit, without}
 use Rattle.cms_search.specs.Units as releasing
 use Rattle.cms_search.specs.declared.access.AccessEnd.{AccessEnd}
 use Rattle.cms_search.specs.declared.access.AccessEnd.TheVariants as ends
@@ -68,7 +68,7 @@ placed_device vdev units u unit place has =
     eqb-true unit.vdev vdev (subst (λ (x : UnitInfo). (x.vdev == vdev) ≡ true) (get_or_from_slice_get units u unit unit has) h.1)
 
 -- its blocks may be read
-pub blocks_there : (told : Told) (t : Accesses) (vdev : ℕ) → Usable told t
+pub blocks_there : (told : Told) (t : AccessTable) (vdev : ℕ) → Usable told t
     → ForSome told (λ j. IfSome (unit_of_device vdev t.units) (λ unit. HasBlocks j.units unit.unit.number unit.unit.blocks unit.bsize))
 blocks_there told t vdev usable j is = cases (place_of_device vdev t.units)
   where
@@ -232,7 +232,7 @@ then_of old w vdev n ext u found l units d read =
 -- ---- the volume isn't accessed
 
 -- a unit in doubt has no letter
-unseated : (t : Accesses) (u : ℕ) → IsTable t → slice_get t.doubts u ≡ Some true → disk_of_unit u t.seats ≡ None
+unseated : (t : AccessTable) (u : ℕ) → IsTable t → slice_get t.doubts u ≡ Some true → disk_of_unit u t.seats ≡ None
 unseated t u is mark = disk_none u t.seats (λ a x at' same.
     let sure : slice_get t.doubts u ≡ Some false = subst (λ (v : ℕ). slice_get t.doubts v ≡ Some false) same (is.sure a x at') in
     let clash : Some true ≡ Some false = sym mark ∙ sure in
@@ -242,7 +242,7 @@ settled_slot : (slot : Slot) → IsMarked false slot → slot ≡ Settled (state
 settled_slot (Settled state) is = refl
 settled_slot (Doubt before later side) is = absurd is
 
-stands_refused : (j : Journal) (t : Accesses) (u : ℕ) (unit : UnitInfo) (slot : Slot) (doubt : Bool) → IsTable t → slice_get t.doubts u ≡ Some doubt → IsMarked doubt slot
+stands_refused : (j : Journal) (t : AccessTable) (u : ℕ) (unit : UnitInfo) (slot : Slot) (doubt : Bool) → IsTable t → slice_get t.doubts u ≡ Some doubt → IsMarked doubt slot
     → StandsAs j u unit slot doubt (disk_of_unit u t.seats) → IsQuiet (disk_on unit) (after j (sync_of doubt u)) u
     → StandsAs (after j (sync_of doubt u)) u unit (Settled (state_in slot)) false (disk_of_unit u t.seats)
 stands_refused j t u unit slot true is mark in_doubt stands quiet =
@@ -250,10 +250,10 @@ stands_refused j t u unit slot true is mark in_doubt stands quiet =
 stands_refused j t u unit slot false is mark settled stands quiet =
     subst (λ (x : Slot). StandsAs j u unit x false (disk_of_unit u t.seats)) (settled_slot slot settled) stands
 
-doubt_within : (t : Accesses) (u : ℕ) (unit : UnitInfo) → IsTable t → slice_get t.units u ≡ Some unit → u < length t.doubts
+doubt_within : (t : AccessTable) (u : ℕ) (unit : UnitInfo) → IsTable t → slice_get t.units u ≡ Some unit → u < length t.doubts
 doubt_within t u unit is has = let long = is.doubts in let less = slice_get_within t.units u unit has in omega (arith, long, less)
 
-holds_refused : (j : Journal) (units : List Slot) (t : Accesses) (u : ℕ) (unit : UnitInfo) (doubt : Bool) (o : Outcome) (line : HoldsUnit j units t u unit) → HoldsTable j units t
+holds_refused : (j : Journal) (units : List Slot) (t : AccessTable) (u : ℕ) (unit : UnitInfo) (doubt : Bool) (o : Outcome) (line : HoldsUnit j units t u unit) → HoldsTable j units t
     → slice_get t.units u ≡ Some unit
     → IsSure j (sync_of doubt u) u line.slot → IsSureOutcome o
     → StandsAs (after j (sync_of doubt u)) u unit (Settled (state_in line.slot)) false (disk_of_unit u t.seats)
@@ -352,7 +352,7 @@ abbrev seat_of : ℕ → UnitInfo → ℕ → Option ℕ → Accessed → Seated
 seat_of u unit n ext disk = record { letter = letter_for u unit.writable n ext; disk = disk; reading = None }
 
 -- what is held behind a step that settled the unit at the minidisk which its new disk is
-pub holds_seated : (j : Journal) (units : List Slot) (t : Accesses) (n u : ℕ) (unit : UnitInfo) (doubt : Bool) (letter : Letter) (disk : Accessed) (m : Minidisk) (o : Outcome)
+pub holds_seated : (j : Journal) (units : List Slot) (t : AccessTable) (n u : ℕ) (unit : UnitInfo) (doubt : Bool) (letter : Letter) (disk : Accessed) (m : Minidisk) (o : Outcome)
     (line : HoldsUnit j units t u unit)
     → HoldsTable j units t → slice_get t.units u ≡ Some unit → n < 26 → letter.unit ≡ u → IsSure j (sync_of doubt u) u line.slot → IsSureOutcome o → IsOn unit disk
     → IsMinidisk (after j (sync_of doubt u)) disk m
@@ -378,7 +378,7 @@ holds_seated j units t n u unit doubt letter disk m o line h has below own s is 
     (holds_left j units t n h)
 
 -- it may be used
-usable_seated : (j : Journal) (t : Accesses) (n u : ℕ) (unit : UnitInfo) (ext : Option ℕ) (disk : Accessed) → slice_get t.units u ≡ Some unit → IsOn unit disk → IsUsableTable j t
+usable_seated : (j : Journal) (t : AccessTable) (n u : ℕ) (unit : UnitInfo) (ext : Option ℕ) (disk : Accessed) → slice_get t.units u ≡ Some unit → IsOn unit disk → IsUsableTable j t
     → IsUsableTable j (seated n (seat_of u unit n ext disk) (marked u false t))
 usable_seated j t n u unit ext disk has on usable = record {
   units = usable.units;
@@ -468,7 +468,7 @@ stands_starved j u unit slot true seat stands = stands
 stands_starved j u unit slot false seat stands = stands
 
 -- a unit in doubt stays so behind a good sync, whose slot has the state still
-holds_starved : (j : Journal) (units : List Slot) (t : Accesses) (u : ℕ) (unit : UnitInfo) (doubt : Bool) (line : HoldsUnit j units t u unit) → HoldsTable j units t
+holds_starved : (j : Journal) (units : List Slot) (t : AccessTable) (u : ℕ) (unit : UnitInfo) (doubt : Bool) (line : HoldsUnit j units t u unit) → HoldsTable j units t
     → slice_get t.units u ≡ Some unit → slice_get t.doubts u ≡ Some doubt → StandsAs j u unit line.slot doubt (disk_of_unit u t.seats) → IsSure j (sync_of doubt u) u line.slot
     → HoldsTable (after j (sync_of doubt u)) units t
 holds_starved j units t u unit doubt line h has mark stands s =
@@ -516,7 +516,7 @@ Comes old w st vdev n ext fault = Acts old (spot_at w st) (accessing_tree old.st
 fault_is : (x fault : SearchFault) → ◌≡◌ {A = Result ⊤ SearchFault} (Err x) (Err fault) → x ≡ fault
 fault_is x fault is = cc is
 
-abbrev wanted_in : Accesses → ℕ → ℕ → Option ℕ → Result ℕ SearchFault
+abbrev wanted_in : AccessTable → ℕ → ℕ → Option ℕ → Result ℕ SearchFault
 wanted_in t vdev n ext = wanted_unit vdev (place_of_device vdev t.units) (missing_parent t.seats n ext)
 
 -- no access is refused for a letter that may only be read, or a file that isn't found
@@ -534,7 +534,7 @@ answers_access (Err (Open (failed.Var m k))) = tt
 answers_access (Err (Open (failed.Twice m))) = tt
 answers_access (Err (Open (failed.System m))) = tt
 
-pub is_of_access : (told told' : Told) (t t' : Accesses) (vdev n : ℕ) (ext : Option ℕ) (fault : SearchFault) → EndsAccess told told' t t' n ext (Err fault) (wanted_in t vdev n ext)
+pub is_of_access : (told told' : Told) (t t' : AccessTable) (vdev n : ℕ) (ext : Option ℕ) (fault : SearchFault) → EndsAccess told told' t t' n ext (Err fault) (wanted_in t vdev n ext)
     → IsOfAccess fault
 is_of_access told told' t t' vdev n ext fault ends' =
     cases (place_of_device vdev t.units) (missing_parent t.seats n ext) ends'
@@ -602,7 +602,7 @@ no_parent old w vdev n ext u parent world place missing =
     let missing' = missing_told old.state.table.seats n ext ∙ missing in
     rw (placed, missing') refl)
 
-abbrev looked_so : (old : Spot) (w : Seen) (t' : Accesses) (vdev n : ℕ) (ext : Option ℕ) (u : ℕ) (r : Result ⊤ SearchFault) → place_of_device vdev old.state.table.units ≡ Some u
+abbrev looked_so : (old : Spot) (w : Seen) (t' : AccessTable) (vdev n : ℕ) (ext : Option ℕ) (u : ℕ) (r : Result ⊤ SearchFault) → place_of_device vdev old.state.table.units ≡ Some u
     → missing_parent old.state.table.seats n ext ≡ None → (e : EndsAccess old.world.told w.told old.state.table t' n ext r (Ok u)) → ChangesUnits old.world w (λ f. f ≡ why.Volume failed.Device) r
     → Looked old w vdev n ext u e.2
 looked_so old w t' vdev n ext u r place free e changes = record {
@@ -617,7 +617,7 @@ looked_so old w t' vdev n ext u r place free e changes = record {
 }
 
 -- the table refused it
-pub access_refused : (old : Spot) (w : Seen) (t' : Accesses) (vdev n : ℕ) (ext : Option ℕ) (fault : SearchFault) (r : Result AccessEnd End) → r ≡ refused_as fault
+pub access_refused : (old : Spot) (w : Seen) (t' : AccessTable) (vdev n : ℕ) (ext : Option ℕ) (fault : SearchFault) (r : Result AccessEnd End) → r ≡ refused_as fault
     → EndsAccess old.world.told w.told old.state.table t' n ext (Err fault) (wanted_in old.state.table vdev n ext)
     → ChangesUnits {T = ⊤} old.world w (λ f. f ≡ why.Volume failed.Device) (Err fault) → OnErr (wanted_in old.state.table vdev n ext) (w ≡ old.world)
     → Acts old (spot_at w (record old.state { table = t' })) (accessing_tree old.state vdev n ext) r (beside (record old.state { table = t' }) itself)
@@ -628,7 +628,7 @@ access_refused old w t' vdev n ext fault r is ends' changes unlooked =
         → Comes old w (record old.state { table = t' }) vdev n ext fault
     same_table f table done is' =
         subst (λ (x : SearchFault). Comes old w (record old.state { table = t' }) vdev n ext x) (sym (fault_is fault f is'))
-        (subst (λ (t : Accesses). Comes old w (record old.state { table = t }) vdev n ext f) (sym table) done)
+        (subst (λ (t : AccessTable). Comes old w (record old.state { table = t }) vdev n ext f) (sym table) done)
 
     cases : (place : Option ℕ) → place_of_device vdev old.state.table.units ≡ place → (missing : Option ℕ) → missing_parent old.state.table.seats n ext ≡ missing
         → EndsAccess old.world.told w.told old.state.table t' n ext (Err fault) (wanted_unit vdev place missing) → OnErr (wanted_unit vdev place missing) (w ≡ old.world)
@@ -637,7 +637,7 @@ access_refused old w t' vdev n ext fault r is ends' changes unlooked =
     cases (Some u) place (Some parent) free e world = same_table (why.NotAccessed parent) e.1 (no_parent old w vdev n ext u parent world place free) e.0
     cases (Some u) place None free e world =
         let l = looked_so old w t' vdev n ext u (Err fault) place free e changes in
-        subst (λ (t : Accesses). Comes old w (record old.state { table = t }) vdev n ext fault) (sym e.7) (refused_to old w vdev n ext u e.2 l fault e.6)
+        subst (λ (t : AccessTable). Comes old w (record old.state { table = t }) vdev n ext fault) (sym e.7) (refused_to old w vdev n ext u e.2 l fault e.6)
 
 -- ---- an access that was done
 
@@ -667,13 +667,13 @@ places_seated st n u vdev letter left own device none some = cases (item_at st.t
     cases (Some s) at' None none some = let clash : Some s ≡ None = none.0 refl in absurd (cc clash)
 
 -- the disk's letter may only be read as it says
-letter_there : (t : Accesses) (n : ℕ) (s : Seated) → n < length (seated n s t).seats → has (λ x. x.letter.read_only) (item_at (seated n s t).seats n) ≡ s.letter.read_only
+letter_there : (t : AccessTable) (n : ℕ) (s : Seated) → n < length (seated n s t).seats → has (λ x. x.letter.read_only) (item_at (seated n s t).seats n) ≡ s.letter.read_only
 letter_there t n s less =
     let xs = without (λ e. e.letter.unit == s.letter.unit) t.seats in
     let there : item_at (seated n s t).seats n ≡ Some s = item_here xs n (Some s) (subst (λ (k : ℕ). n < k) (length-set xs n (Some s)) less) in
     rw there refl
 
-pub access_done : (old : Spot) (w : Seen) (t' : Accesses) (places : Places) (vdev n : ℕ) (ext : Option ℕ) (x : ⊤) (left : Option Seat) (read_only : Bool) → n < 26
+pub access_done : (old : Spot) (w : Seen) (t' : AccessTable) (places : Places) (vdev n : ℕ) (ext : Option ℕ) (x : ⊤) (left : Option Seat) (read_only : Bool) → n < 26
     → EndsAccess old.world.told w.told old.state.table t' n ext (Ok x) (wanted_in old.state.table vdev n ext)
     → ChangesUnits {T = ⊤} old.world w (λ f. f ≡ why.Volume failed.Device) (Ok x)
     → IsTable t'
@@ -707,11 +707,11 @@ access_done old w t' places vdev n ext x left read_only below ends' changes is_t
         ap (λ (y : Option UnitInfo). option_map (λ (z : UnitInfo). z.vdev) y) l.has ∙ ap (λ (v : ℕ). Some v) (placed_device vdev old.state.table.units u l.unit l.place l.has) in
         let places_are = forgot ∙ places_seated old.state n u vdev seat.letter left refl device none some in
         let state : record old.state { table = t'; places = places } ≡ state_seated old.state n u seat =
-        ap (λ (t : Accesses). record old.state { table = t; places = places }) table
+        ap (λ (t : AccessTable). record old.state { table = t; places = places }) table
         ∙ ap (λ (p : Places). record old.state { table = seated n seat (marked u false old.state.table); places = p }) places_are in
         let marks' : read_only ≡ seat.letter.read_only =
-        marks ∙ ap (λ (t : Accesses). has (λ (s : Seated). s.letter.read_only) (item_at t.seats n)) table
-        ∙ letter_there (marked u false old.state.table) n seat (subst (λ (t : Accesses). n < length t.seats) table (let long = is_table.letters in omega (arith, long, below))) in
+        marks ∙ ap (λ (t : AccessTable). has (λ (s : Seated). s.letter.read_only) (item_at t.seats n)) table
+        ∙ letter_there (marked u false old.state.table) n seat (subst (λ (t : AccessTable). n < length t.seats) table (let long = is_table.letters in omega (arith, long, below))) in
         rw (state, marks') (disk_found old w vdev n ext u disk l below)
 
     cases : (place : Option ℕ) → place_of_device vdev old.state.table.units ≡ place → (missing : Option ℕ) → missing_parent old.state.table.seats n ext ≡ missing

@@ -7,7 +7,7 @@ use Rattle.cms_machine.specs.Slots.{Slot}
 use Rattle.cms_machine.specs.Acts.{Act, Done, bind, saying, typed_line}
 use Rattle.cms_machine.proofs.Single.{broke_before}
 use Rattle.cms_machine.proofs.Join.{ran_none, ran_then, ran_bind, broke_then, broke_bind, broke_here}
-use Rattle.cms_line.specs.ConsoleState.{ConsoleState}
+use Rattle.cms_line.specs.ConsoleState.{Console}
 use Rattle.cms_line.specs.declared.message.Message.{Message}
 use Rattle.cms_line.specs.Messages.{message_text}
 use Rattle.cms_search.specs.declared.state.End.{End}
@@ -57,7 +57,7 @@ usable_later old new later same usable = rw same (usable_grown old.world.told ne
 pub at_kept : {os : List Object} (old new : SpotWith os) (units : List Slot) → new.world.faults ≡ old.world.faults → new.state.console ≡ old.state.console
     → at new units ≡ after_world (at old units) new.world
 at_kept {os} old new units faults same =
-    ap (λ (c : ConsoleState). record { journal = new.world.told; faults = new.world.faults; units = units; unread = c.unread; ended = c.ended; objects = os }) same
+    ap (λ (c : Console). record { journal = new.world.told; faults = new.world.faults; units = units; unread = c.unread; ended = c.ended; objects = os }) same
     ∙ ap (λ (n : ℕ). record (after_world (at old units) new.world) { faults = n }) faults
 
 -- what it makes of the machine's units
@@ -71,7 +71,7 @@ plays_does old new t r d units does same = let faults = does.faults in rw (same,
 
 -- ---- a call that only talks
 
-later_talks : {R T : Type 0} (before now : Seen) (was is : ConsoleState) (t : Act R) (r : Result T End) (d : T → R) → Talks before now was is t r d → IsLater before now
+later_talks : {R T : Type 0} (before now : Seen) (was is : Console) (t : Act R) (r : Result T End) (d : T → R) → Talks before now was is t r d → IsLater before now
 later_talks before now was is t r d talks = record {
   grown = grown_idle before.told now.told talks.idle;
   faults = omega (arith, talks.faults);

@@ -3,7 +3,7 @@ use Rattle.std.proofs.Common.{List, Result, Ok, Err, refl}
 use Rattle.cms_machine.specs.Acts.{Act, Done}
 use Rattle.cms_machine.specs.Objects.{Object}
 use Rattle.cms_machine.specs.Slots.{Slot}
-use Rattle.cms_machine.proofs.Asking.{broke_beside, ran_beside}
+use Rattle.cms_machine.proofs.ObjectsAsked.{broke_beside, ran_beside}
 use Rattle.cms_search.specs.Calls.{Acts, Comes, Meaning, Spot, at, spot_beside}
 use Rattle.cms_search.specs.declared.state.End.{End}
 

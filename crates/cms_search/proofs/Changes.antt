@@ -23,17 +23,17 @@ use Rattle.cms_machine.specs.Beats.{Covers}
 use Rattle.cms_machine.specs.Runs.{Ran}
 use Rattle.cms_machine.proofs.Units.{get_other, get_same, other_slot, units_put}
 use Rattle.cms_machine.proofs.Single.{ran_step}
-use Rattle.cms_line.specs.ConsoleState.{ConsoleState}
+use Rattle.cms_line.specs.ConsoleState.{Console}
 use Rattle.cms_disk.specs.Disks.{Accessed, IsLookedAt, IsMinidisk, IsOn, disk_on}
-use Rattle.cms_disk.specs.Changing.{Altered, Changes, Doubted, HasState, IsOnSame, IsWholeAt, Kept}
-use Rattle.cms_disk.specs.Leaving.{LooksAs}
+use Rattle.cms_disk.specs.Changes.{Altered, Changes, Doubted, HasState, IsOnSame, IsWholeAt, Kept}
+use Rattle.cms_disk.specs.CrashStates.{LooksAs}
 use Rattle.cms_disk.specs.declared.unit.UnitInfo.{UnitInfo}
-use Rattle.cms_disk.proofs.Leaving.{covers_looked}
-use Rattle.cms_disk.proofs.Standing.{state_stands}
+use Rattle.cms_disk.proofs.CrashStates.{covers_looked}
+use Rattle.cms_disk.proofs.DisksTold.{state_stands}
 use Rattle.cms_search.specs.Calls.{Spot, Holds, at}
 use Rattle.cms_search.specs.Held.{HoldsTable, IsDoubtSlot, KeepsWhatIsLeft, StandsAs, disk_of}
 use Rattle.cms_search.specs.Searches.{item_at}
-use Rattle.cms_search.specs.Tables.{Accesses, IsReadingOf, IsTable, Seated, doubted}
+use Rattle.cms_search.specs.Tables.{AccessTable, IsReadingOf, IsTable, Seated, doubted}
 use Rattle.cms_search.specs.declared.readings.KeptReading.{KeptReading}
 use Rattle.cms_search.proofs.Frames.{holds_touched}
 use Rattle.cms_search.proofs.LetterDisks.{Met}
@@ -96,17 +96,17 @@ covers_seat old new j s own looked m change stamp o is c =
 -- ---- what is held
 
 -- what the disk's unit is after it was changed, with this table and this mark
-pub record IsThen (j later : Journal) (units : List Slot) (t t' : Accesses) (s : Seated) (met : Met j units t s) (slot : Slot) : Type 0 where
+pub record IsThen (j later : Journal) (units : List Slot) (t t' : AccessTable) (s : Seated) (met : Met j units t s) (slot : Slot) : Type 0 where
   pub doubt : Bool
   pub marked : slice_get t'.doubts s.letter.unit ≡ Some doubt
   pub whole : IsWhole (disk_on met.unit) (now later s.letter.unit)
   pub stands : StandsAs later s.letter.unit met.unit slot doubt (disk_of s.letter.unit t'.seats)
 
 -- other units have their marks and disks still
-abbrev pub KeepsOthers : Accesses → Accesses → ℕ → Type 0
+abbrev pub KeepsOthers : AccessTable → AccessTable → ℕ → Type 0
 KeepsOthers t t' u = (v : ℕ) → u ≢ v → (slice_get t'.doubts v ≡ slice_get t.doubts v) × (disk_of v t'.seats ≡ disk_of v t.seats)
 
-pub holds_changed : (old new : Told) (j : Journal) (units : List Slot) (t t' : Accesses) (s : Seated) (met : Met j units t s) (change : Change) (stamp : Stamp) (o : Outcome)
+pub holds_changed : (old new : Told) (j : Journal) (units : List Slot) (t t' : AccessTable) (s : Seated) (met : Met j units t s) (change : Change) (stamp : Stamp) (o : Outcome)
     → old ≡ Some j → HoldsTable j units t → (c : SeatChanges old new s met.minidisk change stamp o) → IsNow new s.letter.unit met.minidisk change stamp o
     → IsTable t' → t'.units ≡ t.units → KeepsOthers t t' s.letter.unit
     → ((later : Journal) → new ≡ Some later → IsThen j later units t t' s met (changed_slot s.letter.unit met.minidisk change stamp o))
@@ -147,22 +147,22 @@ on_same unit d e same on = record {
   disk = same.disk ∙ on.disk;
 }
 
-others_as : (t : Accesses) (n : ℕ) (s : Seated) (e : Accessed) (r : Option KeptReading) → IsTable t → IsTable (table_as t n s e r) → item_at t.seats n ≡ Some s
+others_as : (t : AccessTable) (n : ℕ) (s : Seated) (e : Accessed) (r : Option KeptReading) → IsTable t → IsTable (table_as t n s e r) → item_at t.seats n ≡ Some s
     → KeepsOthers t (table_as t n s e r) s.letter.unit
 others_as t n s e r is is' at v apart = (
   refl,
   disk_elsewhere t.seats n s (Some (seat_as s e r)) v is.once is'.once at (λ x same. ap (λ (y : Seated). y.letter.unit) (sym (same_Some (seat_as s e r) x same))) apart,
 )
 
-there_as : (t : Accesses) (n : ℕ) (s : Seated) (e : Accessed) (r : Option KeptReading) → IsTable (table_as t n s e r) → item_at t.seats n ≡ Some s
+there_as : (t : AccessTable) (n : ℕ) (s : Seated) (e : Accessed) (r : Option KeptReading) → IsTable (table_as t n s e r) → item_at t.seats n ≡ Some s
     → disk_of s.letter.unit (table_as t n s e r).seats ≡ Some (seat_as s e r)
 there_as t n s e r is' at = disk_there (table_as t n s e r).seats n (seat_as s e r) is'.once (item_here t.seats n (Some (seat_as s e r)) (item_within t.seats n s at))
 
-others_with : (t : Accesses) (n : ℕ) (s : Seated) (e : Accessed) → IsTable t → item_at t.seats n ≡ Some s → KeepsOthers t (table_with t n s e) s.letter.unit
+others_with : (t : AccessTable) (n : ℕ) (s : Seated) (e : Accessed) → IsTable t → item_at t.seats n ≡ Some s → KeepsOthers t (table_with t n s e) s.letter.unit
 others_with t n s e is at = others_as t n s e None is (is_table_with t n s e is at) at
 
 -- its unit is settled at the minidisk that the disk is then, and a reading that it keeps has left what that has
-then_as : (j later : Journal) (units : List Slot) (t : Accesses) (n : ℕ) (s : Seated) (e : Accessed) (r : Option KeptReading) (met : Met j units t s) (slot : Slot) (m : Minidisk)
+then_as : (j later : Journal) (units : List Slot) (t : AccessTable) (n : ℕ) (s : Seated) (e : Accessed) (r : Option KeptReading) (met : Met j units t s) (slot : Slot) (m : Minidisk)
     → IsTable t → IsTable (table_as t n s e r) → item_at t.seats n ≡ Some s → IsOnSame s.disk e → slot ≡ Settled (Volume m) → IsMinidisk later e m
     → KeepsWhatIsLeft later m (seat_as s e r) → IsThen j later units t (table_as t n s e r) s met slot
 then_as j later units t n s e r met slot m is is' at same settled there left =
@@ -176,13 +176,13 @@ then_as j later units t n s e r met slot m is is' at same settled there left =
     }
 
 -- another disk keeps no reading
-pub then_minidisk : (j later : Journal) (units : List Slot) (t : Accesses) (n : ℕ) (s : Seated) (e : Accessed) (met : Met j units t s) (slot : Slot) (m : Minidisk) → IsTable t
+pub then_minidisk : (j later : Journal) (units : List Slot) (t : AccessTable) (n : ℕ) (s : Seated) (e : Accessed) (met : Met j units t s) (slot : Slot) (m : Minidisk) → IsTable t
     → item_at t.seats n ≡ Some s → IsOnSame s.disk e → slot ≡ Settled (Volume m) → IsMinidisk later e m → IsThen j later units t (table_with t n s e) s met slot
 then_minidisk j later units t n s e met slot m is at same settled there =
     then_as j later units t n s e None met slot m is (is_table_with t n s e is at) at same settled there tt
 
 -- where a disk is another that is the same minidisk, or keeps another reading, nothing was done to its unit
-holds_as : (j : Journal) (units : List Slot) (t : Accesses) (n : ℕ) (s : Seated) (e : Accessed) (r : Option KeptReading) (met : Met j units t s) → IsTable (table_as t n s e r)
+holds_as : (j : Journal) (units : List Slot) (t : AccessTable) (n : ℕ) (s : Seated) (e : Accessed) (r : Option KeptReading) (met : Met j units t s) → IsTable (table_as t n s e r)
     → item_at t.seats n ≡ Some s → IsOnSame s.disk e → IsMinidisk j e met.minidisk → KeepsWhatIsLeft j met.minidisk (seat_as s e r) → HoldsTable j units t
     → HoldsTable j units (table_as t n s e r)
 holds_as j units t n s e r met is' at same there left h =
@@ -209,24 +209,24 @@ holds_as j units t n s e r met is' at same there left h =
     })
     h
 
-pub holds_with : (j : Journal) (units : List Slot) (t : Accesses) (n : ℕ) (s : Seated) (e : Accessed) (met : Met j units t s) → item_at t.seats n ≡ Some s → IsOnSame s.disk e
+pub holds_with : (j : Journal) (units : List Slot) (t : AccessTable) (n : ℕ) (s : Seated) (e : Accessed) (met : Met j units t s) → item_at t.seats n ≡ Some s → IsOnSame s.disk e
     → IsMinidisk j e met.minidisk → HoldsTable j units t → HoldsTable j units (table_with t n s e)
 holds_with j units t n s e met at same there h = holds_as j units t n s e None met (is_table_with t n s e h.table at) at same there tt h
 
-pub holds_reading : (j : Journal) (units : List Slot) (t : Accesses) (n : ℕ) (s : Seated) (r : Option KeptReading) (met : Met j units t s) → item_at t.seats n ≡ Some s
+pub holds_reading : (j : Journal) (units : List Slot) (t : AccessTable) (n : ℕ) (s : Seated) (r : Option KeptReading) (met : Met j units t s) → item_at t.seats n ≡ Some s
     → IfSome r (IsReadingOf s.disk) → KeepsWhatIsLeft j met.minidisk (seat_as s s.disk r) → HoldsTable j units t → HoldsTable j units (table_reading t n s r)
 holds_reading j units t n s r met at own left h =
     holds_as j units t n s s.disk r met (is_table_as t n s s.disk r h.table at own) at (record { vdev = refl; writable = refl; unit = refl; disk = refl }) met.is left h
 
 -- ---- the unit is in doubt
 
-others_doubted : (t : Accesses) (n : ℕ) (s : Seated) → IsTable t → item_at t.seats n ≡ Some s → KeepsOthers t (doubted n s.letter.unit t) s.letter.unit
+others_doubted : (t : AccessTable) (n : ℕ) (s : Seated) → IsTable t → item_at t.seats n ≡ Some s → KeepsOthers t (doubted n s.letter.unit t) s.letter.unit
 others_doubted t n s is at v apart = (
   get_other t.doubts s.letter.unit v true (λ same. apart (sym same)),
   disk_elsewhere t.seats n s None v is.once (table_doubted t n s is at).once at (λ x same. absurd (cc)) apart,
 )
 
-then_doubt : (j later : Journal) (units : List Slot) (t : Accesses) (n : ℕ) (s : Seated) (met : Met j units t s) (slot : Slot) → IsTable t → item_at t.seats n ≡ Some s
+then_doubt : (j later : Journal) (units : List Slot) (t : AccessTable) (n : ℕ) (s : Seated) (met : Met j units t s) (slot : Slot) → IsTable t → item_at t.seats n ≡ Some s
     → IsWhole (disk_on met.unit) (now later s.letter.unit) → IsDoubtSlot slot → IsThen j later units t (doubted n s.letter.unit t) s met slot
 then_doubt j later units t n s met slot is at whole doubt = record {
   doubt = true;
@@ -238,14 +238,14 @@ then_doubt j later units t n s met slot is at whole doubt = record {
 -- ---- what a change of the disk leaves
 
 -- the piece of the journal and what is held behind it, with this table
-pub record Steps (old new : Told) (j : Journal) (units : List Slot) (t t' : Accesses) (s : Seated) (met : Met j units t s) (change : Change) (stamp : Stamp) (o : Outcome) : Type 0 where
+pub record Steps (old new : Told) (j : Journal) (units : List Slot) (t t' : AccessTable) (s : Seated) (met : Met j units t s) (change : Change) (stamp : Stamp) (o : Outcome) : Type 0 where
   pub changes : SeatChanges old new s met.minidisk change stamp o
   pub covers : Covers old changes.events s.letter.unit (Volume met.minidisk ∷ []) (set_of (changed_slot s.letter.unit met.minidisk change stamp o))
   pub now' : IsNow new s.letter.unit met.minidisk change stamp o
   pub holds : Holds new t' (changed_units units s.letter.unit met.minidisk change stamp o)
 
 -- where the disk is a minidisk then
-pub steps_with : (old new : Told) (j later : Journal) (units : List Slot) (t : Accesses) (n : ℕ) (s : Seated) (e : Accessed) (met : Met j units t s) (change : Change) (stamp : Stamp) (o : Outcome)
+pub steps_with : (old new : Told) (j later : Journal) (units : List Slot) (t : AccessTable) (n : ℕ) (s : Seated) (e : Accessed) (met : Met j units t s) (change : Change) (stamp : Stamp) (o : Outcome)
     (m : Minidisk) → old ≡ Some j → new ≡ Some later → HoldsTable j units t → item_at t.seats n ≡ Some s → IsOnSame s.disk e → IsMinidisk later e m
     → Changes old new e.volume.disk e.volume.unit met.minidisk change stamp o → changed_slot s.letter.unit met.minidisk change stamp o ≡ Settled (Volume m)
     → Steps old new j units t (table_with t n s e) s met change stamp o
@@ -270,7 +270,7 @@ steps_with old new j later units t n s e met change stamp o m is told h at same 
     }
 
 -- it is done
-pub steps_good : (old new : Told) (j : Journal) (units : List Slot) (t : Accesses) (n : ℕ) (s : Seated) (e : Accessed) (met : Met j units t s) (change : Change) (stamp : Stamp) → old ≡ Some j
+pub steps_good : (old new : Told) (j : Journal) (units : List Slot) (t : AccessTable) (n : ℕ) (s : Seated) (e : Accessed) (met : Met j units t s) (change : Change) (stamp : Stamp) → old ≡ Some j
     → HoldsTable j units t → item_at t.seats n ≡ Some s → IsOnSame s.disk e → Altered old new e met.minidisk change stamp
     → Steps old new j units t (table_with t n s e) s met change stamp Good
 steps_good old new j units t n s e met change stamp is h at same a =
@@ -278,7 +278,7 @@ steps_good old new j units t n s e met change stamp is h at same a =
     steps_with old new j a.later units t n s e met change stamp Good a.after is a.told h at same a.minidisk a.changes (rw answer refl)
 
 -- the device failed before the label was written
-pub steps_kept : (old new : Told) (j : Journal) (units : List Slot) (t : Accesses) (n : ℕ) (s : Seated) (e : Accessed) (met : Met j units t s) (change : Change) (stamp : Stamp) → old ≡ Some j
+pub steps_kept : (old new : Told) (j : Journal) (units : List Slot) (t : AccessTable) (n : ℕ) (s : Seated) (e : Accessed) (met : Met j units t s) (change : Change) (stamp : Stamp) → old ≡ Some j
     → HoldsTable j units t → item_at t.seats n ≡ Some s → IsOnSame s.disk e → Kept old new e met.minidisk change stamp
     → Steps old new j units t (table_with t n s e) s met change stamp OldFault
 steps_kept old new j units t n s e met change stamp is h at same k =
@@ -286,7 +286,7 @@ steps_kept old new j units t n s e met change stamp is h at same k =
     steps_with old new j k.later units t n s e met change stamp OldFault met.minidisk is k.told h at same k.minidisk k.changes (rw answer refl)
 
 -- it failed then
-pub steps_doubted : (old new : Told) (j : Journal) (units : List Slot) (t : Accesses) (n : ℕ) (s : Seated) (met : Met j units t s) (change : Change) (stamp : Stamp) → old ≡ Some j
+pub steps_doubted : (old new : Told) (j : Journal) (units : List Slot) (t : AccessTable) (n : ℕ) (s : Seated) (met : Met j units t s) (change : Change) (stamp : Stamp) → old ≡ Some j
     → HoldsTable j units t → item_at t.seats n ≡ Some s → (d : Doubted old new s.disk met.minidisk change stamp)
     → Steps old new j units t (doubted n s.letter.unit t) s met change stamp (EitherFault d.side)
 steps_doubted old new j units t n s met change stamp is h at d =
@@ -329,5 +329,5 @@ change_ran old new units disk u m change stamp o k there c covered now counted c
     let behind : unit_set (changed_units units u m change stamp o) u ≡ set_of (changed_slot u m change stamp o) = rw slot refl in
     let covers : Covers old.world.told c.events u (unit_set units u) (unit_set (changed_units units u m change stamp o) u) = rw (before, behind) covered in
     ran_step (at old units) (at new (changed_units units u m change stamp o)) (Put u m change stamp) o k c.events c.told counted c.of_unit c.fits there refl
-    (record { unread = ap (λ (s : ConsoleState). s.unread) console; ended = ap (λ (s : ConsoleState). s.ended) console }) refl (λ sound. covers)
+    (record { unread = ap (λ (s : Console). s.unread) console; ended = ap (λ (s : Console). s.ended) console }) refl (λ sound. covers)
     (λ sound x has. ap (λ (z : Option Slot). option_map state_in z) slot ∙ ap (λ (y : State). Some y) (now x has))

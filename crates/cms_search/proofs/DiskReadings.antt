@@ -18,15 +18,15 @@ use Rattle.cms_machine.specs.Runs.{Ran}
 use Rattle.cms_machine.specs.Slots.{Slot}
 use Rattle.cms_machine.proofs.Join.{ran_none}
 use Rattle.cms_edf.specs.OpeningSteps.{OfImage}
-use Rattle.cms_held.specs.Opening.{HeldFile, HeldVolume}
-use Rattle.cms_disk.specs.Cursors.{Reading, HasLeft, HoldLeft, SameFile, fixed_of, unread}
+use Rattle.cms_held.specs.HeldVolumes.{HeldFile, HeldVolume}
+use Rattle.cms_disk.specs.Cursors.{Cursor, HasLeft, HoldLeft, SameFile, fixed_of, unread}
 use Rattle.cms_disk.specs.Disks.{Accessed, OpensIn, StartsAt}
 use Rattle.cms_world.specs.Seen.{Seen}
 use Rattle.cms_search.specs.Calls.{Acts, Comes, IsLater, IsSeatOf, IsUsable, IsUsableTable, Meaning, Spot, at, holds, machine_of}
 use Rattle.cms_search.specs.Held.{IsLeftOf, KeepsWhatIsLeft}
 use Rattle.cms_search.specs.Machine.{Letter, Machine}
 use Rattle.cms_search.specs.Searches.{item_at}
-use Rattle.cms_search.specs.Tables.{Accesses, IsReadingOf, Seated, with_reading}
+use Rattle.cms_search.specs.Tables.{AccessTable, IsReadingOf, Seated, with_reading}
 use Rattle.cms_search.specs.declared.readings.KeptReading.{KeptReading}
 use Rattle.cms_search.specs.declared.state.End.{End}
 use Rattle.cms_search.specs.declared.state.End.TheVariants.{Edge}
@@ -41,7 +41,7 @@ use Rattle.cms_search.proofs.Tables.{item_put}
 -- ---- the file that is read
 
 -- before the first record of the file of a name there is one place alone
-starts_same : (name : Name) (v : HeldVolume) (a b : Reading) → StartsAt name v a → StartsAt name v b → SameFile a b × (a.left ≡ b.left)
+starts_same : (name : Name) (v : HeldVolume) (a b : Cursor) → StartsAt name v a → StartsAt name v b → SameFile a b × (a.left ≡ b.left)
 starts_same name v a b x y =
     let place : x.place ≡ y.place = same_Some x.place y.place (sym x.place_is ∙ y.place_is) in
     let there : slice_get v.files y.place ≡ Some x.file = subst (λ (k : ℕ). slice_get v.files k ≡ Some x.file) place x.file_is in
@@ -60,7 +60,7 @@ starts_same name v a b x y =
     )
 
 -- so a reading that the disk keeps is of the file that is opened
-pub reading_same : (d : Accessed) (r : KeptReading) (first : Reading) → IsReadingOf d r → StartsAt r.name d.volume first
+pub reading_same : (d : Accessed) (r : KeptReading) (first : Cursor) → IsReadingOf d r → StartsAt r.name d.volume first
     → SameFile first r.cursor × (r.count + r.cursor.left ≡ first.left)
 reading_same d r first own starts =
     let one = starts_same r.name d.volume first own.first starts own.starts in
@@ -74,17 +74,17 @@ hold_same : (bsize : ℕ) (fixed : Option ℕ) (most left place : ℕ) (bytes : 
 hold_same bsize (Some size) most left place bytes rs qs a b = a.0 ∙ sym b.0
 hold_same bsize None most left place bytes rs qs a b = ok_same rs qs (sym a.0 ∙ b.0)
 
-left_same : (image : Image) (c : Reading) (rs qs : List (List ℕ)) → HasLeft image c rs → HasLeft image c qs → rs ≡ qs
+left_same : (image : Image) (c : Cursor) (rs qs : List (List ℕ)) → HasLeft image c rs → HasLeft image c qs → rs ≡ qs
 left_same image c rs qs a b = hold_same c.bsize c.begun.fixed c.begun.longest c.left _ (unread image c) rs qs a.held b.held
 
 -- so many of the records that were left to the first reading are behind the other, which has left the others
-pub record Behind (told : Told) (first c : Reading) (n : ℕ) : Type 0 where
+pub record Behind (told : Told) (first c : Cursor) (n : ℕ) : Type 0 where
   pub front : List (List ℕ)
   pub long : length front ≡ n
   pub left : OfImage told first.unit (λ image. (all : List (List ℕ)) → HasLeft image first all → Splits image c front all)
 
 -- it is as if they had been handed out
-pub handed_behind : {R : Type 0} (s : Seen) (first c : Reading) (n : ℕ) → Behind s.told first c n → SameFile first c → IsOpen s.told first
+pub handed_behind : {R : Type 0} (s : Seen) (first c : Cursor) (n : ℕ) → Behind s.told first c n → SameFile first c → IsOpen s.told first
     → (h : Handed (silent {R = R}) s s first c) × (length h.front ≡ n)
 handed_behind s first c n b same has = (
   record {
@@ -98,7 +98,7 @@ handed_behind s first c n b same has = (
   b.long,
 )
 
-module _ (old : Spot) (n : ℕ) (s : Seated) (name : Name) (first : Reading) (there : item_at old.state.table.seats n ≡ Some s) (opens : OpensIn s.disk name first)
+module _ (old : Spot) (n : ℕ) (s : Seated) (name : Name) (first : Cursor) (there : item_at old.state.table.seats n ≡ Some s) (opens : OpensIn s.disk name first)
     (unit : first.unit ≡ s.disk.volume.unit) where
   -- the file of the name, whose records are left to the first reading
   record FileLeft (units : List Slot) (k : MetAt old units s) : Type 0 where
@@ -139,7 +139,7 @@ module _ (old : Spot) (n : ℕ) (s : Seated) (name : Name) (first : Reading) (th
       }
 
   -- and one that has handed out so many has left those behind them
-  pub left_behind : {R : Type 0} (before : Seen) (c : Reading) (count : ℕ) (h : Handed (silent {R = R}) before old.world first c) → length h.front ≡ count → old.world.told ≡ before.told
+  pub left_behind : {R : Type 0} (before : Seen) (c : Cursor) (count : ℕ) (h : Handed (silent {R = R}) before old.world first c) → length h.front ≡ count → old.world.told ≡ before.told
       → (units : List Slot) (k : MetAt old units s) → KeepsWhatIsLeft k.journal k.met.minidisk (seat_as s s.disk (Some (record { name = name; count = count; cursor = c })))
   left_behind before c count h long same units k =
       let f = file_left units k in
@@ -153,7 +153,7 @@ module _ (old : Spot) (n : ℕ) (s : Seated) (name : Name) (first : Reading) (th
 
 -- ---- a reading is taken, or another is kept
 
-pub usable_reading : (j : Journal) (t : Accesses) (n : ℕ) (s : Seated) (r : Option KeptReading) → item_at t.seats n ≡ Some s → IsUsableTable j t → IsUsableTable j (table_reading t n s r)
+pub usable_reading : (j : Journal) (t : AccessTable) (n : ℕ) (s : Seated) (r : Option KeptReading) → item_at t.seats n ≡ Some s → IsUsableTable j t → IsUsableTable j (table_reading t n s r)
 usable_reading j t n s r at u = record {
   units = u.units;
   seats = λ a x unit is has. ⊎_elim
@@ -182,7 +182,7 @@ comes_reading {R = R} old new n s r next is own left =
     let mid : Spot = record { world = old.world; state = then' } in
     let table : new.state.table ≡ table_reading t n s r = is.table ∙ with_reading_is t n s r is.there in
     let spot : new ≡ mid =
-    ap (λ (w : Seen). record new { world = w }) is.world ∙ ap (λ (x : State). record { world = old.world; state = x }) (is.state ∙ ap (λ (x : Accesses). record old.state { table = x }) table) in
+    ap (λ (w : Seen). record new { world = w }) is.world ∙ ap (λ (x : State). record { world = old.world; state = x }) (is.state ∙ ap (λ (x : AccessTable). record old.state { table = x }) table) in
     let machine : (units : List Slot) → machine_of old.state units ≡ machine_of then' units =
     λ units. sym (ap (λ (l : List (Option Letter)). record (machine_of old.state units) { letters = l }) (letters_as t.seats n s s.disk r is.there)) in
     let comes : Comes old mid (λ units. next (machine_of old.state units)) (λ units. next (machine_of then' units)) = record {

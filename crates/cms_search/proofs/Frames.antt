@@ -13,14 +13,14 @@ use Rattle.cms_model.specs.Volumes.{Disk, Opened}
 use Rattle.cms_model.specs.Settled.{IsSettled, IsFirm}
 use Rattle.cms_model.specs.LawsSizes.{IsWhole}
 use Rattle.cms_model.specs.LawsUpdates.{AsBefore, after}
-use Rattle.cms_model.proofs.Settling.{aside_is_as_before}
+use Rattle.cms_model.proofs.SettledUnits.{aside_is_as_before}
 use Rattle.cms_machine.specs.Points.{LeavesIn, Leaves, HasNowIn, HasNow}
 use Rattle.cms_machine.specs.Slots.{Slot}
 use Rattle.cms_machine.proofs.Aside.{leaves_aside, now_aside}
 use Rattle.cms_disk.specs.Disks.{IsQuiet, disk_on}
 use Rattle.cms_disk.specs.declared.unit.UnitInfo.{UnitInfo}
-use Rattle.cms_disk.proofs.Standing.{minidisk_aside}
-use Rattle.cms_search.specs.Tables.{Accesses, IsTable, Seated}
+use Rattle.cms_disk.proofs.DisksTold.{minidisk_aside}
+use Rattle.cms_search.specs.Tables.{AccessTable, IsTable, Seated}
 use Rattle.cms_search.specs.Held.{HoldsTable, HoldsUnit, IsLeftOf, SameUnit, StandsAs, disk_of}
 
 -- what a crash leaves of a unit that a piece leaves alone is what it left before
@@ -50,10 +50,10 @@ stands_aside j piece u unit slot false (Some s) number aside is =
     (is.0, is.1, is.2, minidisk_aside j piece s.disk is.0 own is.3, left)
 
 -- all units are as before
-pub same_unit : (units : List Slot) (t : Accesses) (u : ℕ) → SameUnit units units t t u
+pub same_unit : (units : List Slot) (t : AccessTable) (u : ℕ) → SameUnit units units t t u
 same_unit units t u = record { slot = refl; doubt = refl; disk = refl }
 
-pub holds_aside : (j : Journal) (piece : List Event) (units units' : List Slot) (t t' : Accesses) (u : ℕ) (unit : UnitInfo) → IsUntouched piece u → SameUnit units units' t t' u
+pub holds_aside : (j : Journal) (piece : List Event) (units units' : List Slot) (t t' : AccessTable) (u : ℕ) (unit : UnitInfo) → IsUntouched piece u → SameUnit units units' t t' u
     → HoldsUnit j units t u unit → HoldsUnit (after j piece) units' t' u unit
 holds_aside j piece units units' t t' u unit aside same h =
     let before = aside_is_as_before j piece u aside in
@@ -74,12 +74,12 @@ holds_aside j piece units units' t t' u unit aside same h =
     }
 
 -- the events are of another unit alone
-pub holds_other : (j : Journal) (piece : List Event) (units units' : List Slot) (t t' : Accesses) (v u : ℕ) (unit : UnitInfo) → v ≢ u → OnlyOf v piece → SameUnit units units' t t' u
+pub holds_other : (j : Journal) (piece : List Event) (units units' : List Slot) (t t' : AccessTable) (v u : ℕ) (unit : UnitInfo) → v ≢ u → OnlyOf v piece → SameUnit units units' t t' u
     → HoldsUnit j units t u unit → HoldsUnit (after j piece) units' t' u unit
 holds_other j piece units units' t t' v u unit apart only same h = holds_aside j piece units units' t t' u unit (of_aside v piece u apart only) same h
 
 -- a call touched one unit, whose line is this one now; the others have theirs
-pub holds_touched : (j : Journal) (piece : List Event) (units units' : List Slot) (t t' : Accesses) (v : ℕ) (unit : UnitInfo) → OnlyOf v piece → IsTable t'
+pub holds_touched : (j : Journal) (piece : List Event) (units units' : List Slot) (t t' : AccessTable) (v : ℕ) (unit : UnitInfo) → OnlyOf v piece → IsTable t'
     → t'.units ≡ t.units → length units' ≡ length units → slice_get t.units v ≡ Some unit → ((u : ℕ) → v ≢ u → SameUnit units units' t t' u)
     → HoldsUnit (after j piece) units' t' v unit → HoldsTable j units t → HoldsTable (after j piece) units' t'
 holds_touched j piece units units' t t' v unit only is same long has others line h = record {

@@ -22,10 +22,10 @@ use Rattle.cms_text.specs.Bytes.{half}
 use Rattle.cms_model.specs.Lists.{cut}
 use Rattle.cms_model.specs.Records.{varying}
 use Rattle.cms_model.specs.declared.fault.VarFault.TheVariants.{Zero, PastEnd, Left}
-use Rattle.cms_model.proofs.Changing.{name_from}
 use Rattle.cms_model.proofs.Cuts.{length_cut}
+use Rattle.cms_model.proofs.ListChanges.{name_from}
 use Rattle.cms_model.proofs.Results.{bind_then, ok_same, want_ok}
-use Rattle.cms_model.proofs.Settling.{aside_is_as_before}
+use Rattle.cms_model.proofs.SettledUnits.{aside_is_as_before}
 use Rattle.cms_machine.specs.Slots.{Slot, Settled}
 use Rattle.cms_machine.specs.Steps.{Get, Outcome, Good, ReadFault, SyncFault, OldFault, EitherFault, MayGet, Offers, faults_in}
 use Rattle.cms_machine.specs.Acts as acts
@@ -35,7 +35,7 @@ use Rattle.cms_machine.specs.Runs.{Ran, Broke}
 use Rattle.cms_machine.proofs.Join.{ran_none, ran_then, broke_then}
 use Rattle.cms_machine.proofs.Single.{ran_still}
 use Rattle.cms_edf.specs.OpeningSteps.{OfImage}
-use Rattle.cms_disk.specs.Cursors.{Reading, HasLeft, HoldLeft, HandsOut, SameFile, text_of, unread}
+use Rattle.cms_disk.specs.Cursors.{Cursor, HasLeft, HoldLeft, HandsOut, SameFile, text_of, unread}
 use Rattle.cms_line.specs.Messages.{message_text}
 use Rattle.cms_line.specs.declared.message.Message.TheVariants.{M105}
 use Rattle.cms_disk.specs.Disks.{OpensIn, StartsAt}
@@ -52,7 +52,7 @@ use Rattle.cms_search.specs.DeviceSteps.{HasRead}
 use Rattle.cms_search.specs.Machine.{Course}
 use Rattle.cms_search.specs.Refusals.{unread_code, unread_message}
 use Rattle.cms_search.specs.Searches.{item_at}
-use Rattle.cms_search.specs.Tables.{Accesses, Seated}
+use Rattle.cms_search.specs.Tables.{AccessTable, Seated}
 use Rattle.cms_search.specs.Texts.{device_text}
 use Rattle.cms_world.specs.Seen.{OnlyReads, Seen}
 use Rattle.cms_search.proofs.IdleEvents.{holds_idle}
@@ -132,23 +132,23 @@ image_idle old new u P idle h j is =
     subst P (ap image_of same) (h (after j idle.events) there)
 
 -- the blocks of a file that is read may be read
-abbrev pub IsOpen : Told → Reading → Type 0
+abbrev pub IsOpen : Told → Cursor → Type 0
 IsOpen told c = ForSome told (λ j. HasBlocks j.units c.unit c.total c.bsize)
 
-pub open_idle : (old new : Told) (c : Reading) → Idle old new → IsOpen old c → IsOpen new c
+pub open_idle : (old new : Told) (c : Cursor) → Idle old new → IsOpen old c → IsOpen new c
 open_idle None new c idle has = let e : new ≡ None = idle.told ∙ plus-none idle.events in rw e (λ j f. absurd (cc))
 open_idle (Some i) new c idle has =
     let e : new ≡ Some (after i idle.events) = idle.told ∙ plus-some i idle.events in
     rw e (λ j f. let same : after i idle.events ≡ j = same_Some _ _ f in rw (← same) (has i refl))
 
-pub open_same : (told : Told) (c d : Reading) → SameFile c d → IsOpen told c → IsOpen told d
+pub open_same : (told : Told) (c d : Cursor) → SameFile c d → IsOpen told c → IsOpen told d
 open_same told c d same has j is =
     let unit = same.unit in
     let total = same.total in
     let bsize = same.bsize in
     rw (unit, total, bsize) (has j is)
 
-pub same_then : (a b c : Reading) → SameFile a b → SameFile b c → SameFile a c
+pub same_then : (a b c : Cursor) → SameFile a b → SameFile b c → SameFile a c
 same_then a b c x y = record {
   unit = y.unit ∙ x.unit;
   total = y.total ∙ x.total;
@@ -159,13 +159,13 @@ same_then a b c x y = record {
 }
 
 -- the records that were left: those of the front, and those that are left still
-pub record Splits (image : Image) (c : Reading) (front all : List (List ℕ)) : Type 0 where
+pub record Splits (image : Image) (c : Cursor) (front all : List (List ℕ)) : Type 0 where
   pub more : List (List ℕ)
   pub is : all ≡ front ++ more
   pub left : HasLeft image c more
 
 -- since a file was opened the records of the front were handed out, and it was done with each; the others are left
-pub record Handed {R : Type 0} (run : ℕ → List (List ℕ) → Act R → Act R) (before now : Seen) (first c : Reading) : Type 0 where
+pub record Handed {R : Type 0} (run : ℕ → List (List ℕ) → Act R → Act R) (before now : Seen) (first c : Cursor) : Type 0 where
   pub front : List (List ℕ)
   pub goes : (next : Act R) → Goes before now (run 0 front next) next
   pub passes : Passes before now
@@ -173,7 +173,7 @@ pub record Handed {R : Type 0} (run : ℕ → List (List ℕ) → Act R → Act 
   pub file : SameFile first c
   pub opened : IsOpen now.told c
 
-unfoldable pub handed_none : {R : Type 0} (run : ℕ → List (List ℕ) → Act R → Act R) (one : ℕ → List ℕ → Act R → Act R) (s : Seen) (c : Reading) → IsEach run one → IsOpen s.told c
+unfoldable pub handed_none : {R : Type 0} (run : ℕ → List (List ℕ) → Act R → Act R) (one : ℕ → List ℕ → Act R → Act R) (s : Seen) (c : Cursor) → IsEach run one → IsOpen s.told c
     → Handed run s s c c
 handed_none run one s c each has = record {
   front = [];
@@ -185,18 +185,18 @@ handed_none run one s c each has = record {
 }
 
 -- what the call that hands out the next record said
-abbrev pub Hands : Told → Reading → Reading → Result Bool DiskFault → Type 0
+abbrev pub Hands : Told → Cursor → Cursor → Result Bool DiskFault → Type 0
 Hands told c d r = OfImage told c.unit (λ image. (records : List (List ℕ)) → HasLeft image c records → HandsOut image d records r)
 
 -- the same of the image in which the file was opened
-pub hands_first : {R : Type 0} (run : ℕ → List (List ℕ) → Act R → Act R) (before now : Seen) (first c d : Reading) (r : Result Bool DiskFault) → Handed run before now first c
+pub hands_first : {R : Type 0} (run : ℕ → List (List ℕ) → Act R → Act R) (before now : Seen) (first c d : Cursor) (r : Result Bool DiskFault) → Handed run before now first c
     → Hands now.told c d r → OfImage before.told first.unit (λ image. (records : List (List ℕ)) → HasLeft image c records → HandsOut image d records r)
 hands_first run before now first c d r h hands =
     let P : Image → Type 0 = λ image. (records : List (List ℕ)) → HasLeft image c records → HandsOut image d records r in
     image_idle before.told now.told first.unit P h.passes.idle (subst (λ (u : ℕ). OfImage now.told u P) h.file.unit hands)
 
 -- a further record was handed out, and it was done with it
-unfoldable pub handed_more : {R : Type 0} (run : ℕ → List (List ℕ) → Act R → Act R) (one : ℕ → List ℕ → Act R → Act R) (before mid now : Seen) (first c d : Reading) → IsEach run one
+unfoldable pub handed_more : {R : Type 0} (run : ℕ → List (List ℕ) → Act R → Act R) (one : ℕ → List ℕ → Act R → Act R) (before mid now : Seen) (first c d : Cursor) → IsEach run one
     → (h : Handed run before mid first c) → Hands mid.told c d (Ok true) → SameFile c d → Passes mid now
     → ((next : Act R) → Goes mid now (one (length h.front) (text_of d) next) next) → Handed run before now first d
 handed_more run one before mid now first c d each h hands same passes goes = record {
@@ -230,7 +230,7 @@ get_first p q before now u f wanted o k next offers may counted journal is goes 
     (subst (λ (z : Point). Ran m z (k o) next) (sym is) (goes m journal))
 
 -- on these units a tree reads what is wanted of the file of which these records are left, and goes on by the outcome
-pub record ReadsOn {R : Type 0} (old : Spot) (units : List Slot) (first : Reading) (t : Act R) (u : ℕ) (wanted : File → ℕ) (then' : File → Outcome → Act R) : Type 0 where
+pub record ReadsOn {R : Type 0} (old : Spot) (units : List Slot) (first : Cursor) (t : Act R) (u : ℕ) (wanted : File → ℕ) (then' : File → Outcome → Act R) : Type 0 where
   pub file : File
   pub offers : Offers (slice_get units u) file (wanted file)
   pub tree : t ≡ acts.Does (Get u file (wanted file)) (then' file)
@@ -238,7 +238,7 @@ pub record ReadsOn {R : Type 0} (old : Spot) (units : List Slot) (first : Readin
   pub told : old.world.told ≡ Some journal
   pub left : HasLeft (image_of (contents_of journal first.unit)) first file.records
 
-pub record Reads {R : Type 0} (old : Spot) (first : Reading) (t : List Slot → Act R) (u : ℕ) (wanted : File → ℕ) (then' : List Slot → File → Outcome → Act R) : Type 0 where
+pub record Reads {R : Type 0} (old : Spot) (first : Cursor) (t : List Slot → Act R) (u : ℕ) (wanted : File → ℕ) (then' : List Slot → File → Outcome → Act R) : Type 0 where
   pub each : (units : List Slot) → holds old units → ReadsOn old units first (t units) u wanted (then' units)
 
 -- of each file that begins with these records at least these are wanted, or exactly these
@@ -263,7 +263,7 @@ wanted_are : (n : ℕ) (all front more : List (List ℕ)) → all ≡ front ++ m
 wanted_are n all front more is long = ap (λ (k : ℕ). take k all) long ∙ (ap (take (length front)) is ∙ take-append_seam front more)
 
 -- so many as are wanted were handed out
-module _ {R : Type 0} (run : ℕ → List (List ℕ) → Act R → Act R) (old mid new : Spot) (first c : Reading) (t : List Slot → Act R) (u : ℕ) (wanted : File → ℕ)
+module _ {R : Type 0} (run : ℕ → List (List ℕ) → Act R → Act R) (old mid new : Spot) (first c : Cursor) (t : List Slot → Act R) (u : ℕ) (wanted : File → ℕ)
     (then' : List Slot → File → Outcome → Act R) (rest : List Slot → Act R) (reads : Reads old first t u wanted then') (h : Handed run old.world mid.world first c) where
   read_so : HasRead mid.world new.world → new.state ≡ old.state → ((units : List Slot) (held : holds old units) → wanted (reads.each units held).file ≡ length h.front)
       → ((units : List Slot) (f : File) → then' units f Good ≡ run 0 (take (wanted f) f.records) (rest units)) → Comes old new t rest
@@ -294,7 +294,7 @@ module _ {R : Type 0} (run : ℕ → List (List ℕ) → Act R → Act R) (old m
       all r.file s.more s.is) is
 
   -- no more are there
-  pub read_all : (d : Reading) → Hands mid.world.told c d (Ok false) → HasRead mid.world new.world → new.state ≡ old.state
+  pub read_all : (d : Cursor) → Hands mid.world.told c d (Ok false) → HasRead mid.world new.world → new.state ≡ old.state
       → ((f : File) → f.records ≡ h.front → wanted f ≡ length h.front)
       → ((units : List Slot) (f : File) → then' units f Good ≡ run 0 (take (wanted f) f.records) (rest units)) → Comes old new t rest
   read_all d hands read same all is = read_so read same
@@ -337,7 +337,7 @@ wanted_with n all front more text is low =
     (take m more, ap (λ (k : ℕ). take k all) split ∙ (ap (take (length begun + m)) is ∙ (take-append-add begun more m ∙ append_assoc front (text ∷ []) (take m more))))
 
 -- it was cut off in what is done with a record
-pub read_stops : {R T : Type 0} (run : ℕ → List (List ℕ) → Act R → Act R) (one : ℕ → List ℕ → Act R → Act R) (old mid new : Spot) (first c d : Reading) (t : List Slot → Act R)
+pub read_stops : {R T : Type 0} (run : ℕ → List (List ℕ) → Act R → Act R) (one : ℕ → List ℕ → Act R → Act R) (old mid new : Spot) (first c d : Cursor) (t : List Slot → Act R)
     (u : ℕ) (wanted : File → ℕ) (then' : List Slot → File → Outcome → Act R) (rest : List Slot → Act R) (e : End) (done : Meaning T R) → IsEach run one
     → Reads old first t u wanted then' → (h : Handed run old.world mid.world first c) → Hands mid.world.told c d (Ok true) → Passes mid.world new.world → new.state ≡ old.state
     → AreAmong wanted (h.front ++ text_of d ∷ []) → ((units : List Slot) (f : File) → then' units f Good ≡ run 0 (take (wanted f) f.records) (rest units))
@@ -391,7 +391,7 @@ acts_never old new t r d never later usable cause = record {
 -- ---- a file that can't be read any further
 
 -- the records are never found altered
-never_altered : {R : Type 0} (run : ℕ → List (List ℕ) → Act R → Act R) (old mid : Spot) (first c d : Reading) (t : List Slot → Act R) (u : ℕ) (wanted : File → ℕ)
+never_altered : {R : Type 0} (run : ℕ → List (List ℕ) → Act R → Act R) (old mid : Spot) (first c d : Cursor) (t : List Slot → Act R) (u : ℕ) (wanted : File → ℕ)
     (then' : List Slot → File → Outcome → Act R) → Reads old first t u wanted then' → Handed run old.world mid.world first c → Hands mid.world.told c d (Err Altered)
     → (units : List Slot) → holds old units → ⊥
 never_altered run old mid first c d t u wanted then' reads h hands units held =
@@ -404,7 +404,7 @@ pub caused : {T : Type 0} (before mid now : ℕ) (r : Result T End) → before �
 caused before mid now (Ok x) low h = tt
 caused before mid now (Err e) low h = λ edge. rose_from before mid now low (h edge)
 
-module _ (run : ℕ → List (List ℕ) → Act Course → Act Course) (old mid read' new : Spot) (first c d : Reading) (t : List Slot → Act Course) (u : ℕ) (wanted : File → ℕ) (vdev : ℕ)
+module _ (run : ℕ → List (List ℕ) → Act Course → Act Course) (old mid read' new : Spot) (first c d : Cursor) (t : List Slot → Act Course) (u : ℕ) (wanted : File → ℕ) (vdev : ℕ)
     (then' : List Slot → File → Outcome → Act Course) (r : Result declared.Course End) (reads : Reads old first t u wanted then') (h : Handed run old.world mid.world first c)
     (read : HasRead mid.world read'.world) (same : read'.state ≡ old.state) (still : new.state ≡ read'.state) where
   -- the device failed
@@ -466,7 +466,7 @@ pointwise : {A B : Type 0} {f g : A → B} → ((x : A) → f x ≡ g x) → f �
 pointwise h = λ i x. h x i
 
 -- what follows is known by the records that were handed out
-pub narrowed : {R : Type 0} (old mid : Spot) (first c : Reading) (t : List Slot → Act R) (u : ℕ) (wanted : File → ℕ) (then' : List Slot → File → Outcome → Act R) (rest : List Slot → Act R)
+pub narrowed : {R : Type 0} (old mid : Spot) (first c : Cursor) (t : List Slot → Act R) (u : ℕ) (wanted : File → ℕ) (then' : List Slot → File → Outcome → Act R) (rest : List Slot → Act R)
     → Reads old first t u wanted then' → (h : Handed (silent {R = R}) old.world mid.world first c)
     → ((units : List Slot) (f : File) (more : List (List ℕ)) → f.records ≡ h.front ++ more → then' units f Good ≡ rest units) → Reads old first t u wanted (only rest then')
 narrowed old mid first c t u wanted then' rest reads h same = record {
@@ -489,15 +489,15 @@ hold_fixed : (bsize : ℕ) (fixed : Option ℕ) (size most left place : ℕ) (by
 hold_fixed bsize None size most left place bytes rs is h = absurd (cc is)
 hold_fixed bsize (Some n) size most left place bytes rs is h = h.0 ∙ ap (λ (k : ℕ). cut left k bytes) (same_Some n size is)
 
-fixed_left : (image : Image) (c : Reading) (size : ℕ) (records : List (List ℕ)) → c.begun.fixed ≡ Some size → HasLeft image c records → records ≡ cut c.left size (unread image c)
+fixed_left : (image : Image) (c : Cursor) (size : ℕ) (records : List (List ℕ)) → c.begun.fixed ≡ Some size → HasLeft image c records → records ≡ cut c.left size (unread image c)
 fixed_left image c size records fixed h = hold_fixed c.bsize c.begun.fixed size c.begun.longest c.left _ (unread image c) records fixed h.held
 
 -- the first of them, by what the journal tells; where it tells nothing it is enough that they are so many
-abbrev first_fixed : Told → Reading → ℕ → ℕ → List (List ℕ)
+abbrev first_fixed : Told → Cursor → ℕ → ℕ → List (List ℕ)
 first_fixed None c size n = replicate n []
 first_fixed (Some j) c size n = take n (cut c.left size (unread (image_of (contents_of j c.unit)) c))
 
-first_long : (t : Told) (c : Reading) (size n : ℕ) → n ≤ c.left → length (first_fixed t c size n) ≡ n
+first_long : (t : Told) (c : Cursor) (size n : ℕ) → n ≤ c.left → length (first_fixed t c size n) ≡ n
 first_long None c size n low = length-replicate n []
 first_long (Some j) c size n low =
     let all = cut c.left size (unread (image_of (contents_of j c.unit)) c) in
@@ -505,7 +505,7 @@ first_long (Some j) c size n low =
     length-take-le n all (omega arith)
 
 -- so many of them were passed over
-pub handed_past : {R : Type 0} (s : Seen) (first c : Reading) (size n : ℕ) → first.begun.fixed ≡ Some size → n ≤ first.left
+pub handed_past : {R : Type 0} (s : Seen) (first c : Cursor) (size n : ℕ) → first.begun.fixed ≡ Some size → n ≤ first.left
     → ((image : Image) (records : List (List ℕ)) → HasLeft image first records → HasLeft image c (drop n records)) → SameFile first c → IsOpen s.told first
     → (h : Handed (silent {R = R}) s s first c) × (length h.front ≡ n)
 handed_past s first c size n fixed low past same has = (
@@ -546,7 +546,7 @@ hold_long : (bsize : ℕ) (fixed : Option ℕ) (most left place : ℕ) (bytes : 
 hold_long bsize (Some size) most left place bytes rs h = ap length h.0 ∙ length_cut left size bytes
 hold_long bsize None most left place bytes rs h = varying_long bsize left place bytes rs h.0
 
-pub left_long : (image : Image) (c : Reading) (rs : List (List ℕ)) → HasLeft image c rs → length rs ≡ c.left
+pub left_long : (image : Image) (c : Cursor) (rs : List (List ℕ)) → HasLeft image c rs → length rs ≡ c.left
 left_long image c rs h = hold_long c.bsize c.begun.fixed c.begun.longest c.left _ (unread image c) rs h.held
 
 -- ---- a file of the disk of a letter
@@ -561,7 +561,7 @@ named_so name (g ∷ fs) f is = elim (cases_Bool (same_name name g.name)) [
 ]
 
 -- a tree that reads some records of the file of a name on the disk s of letter n, whichever its minidisk is
-pub reads_seat : {R : Type 0} (old : Spot) (n : ℕ) (s : Seated) (name : Name) (first : Reading) (t : List Slot → Act R) (wanted : File → ℕ) (then' : List Slot → File → Outcome → Act R)
+pub reads_seat : {R : Type 0} (old : Spot) (n : ℕ) (s : Seated) (name : Name) (first : Cursor) (t : List Slot → Act R) (wanted : File → ℕ) (then' : List Slot → File → Outcome → Act R)
     → item_at old.state.table.seats n ≡ Some s → OpensIn s.disk name first → first.unit ≡ s.disk.volume.unit → ((f : File) → wanted f ≤ length f.records)
     → ((units : List Slot) (m : Minidisk) (f : File) → slice_get units s.letter.unit ≡ Some (Settled (Volume m)) → file_named name m.files ≡ Some f
     → length f.records ≡ first.left → t units ≡ acts.Does (Get s.letter.unit f (wanted f)) (then' units f)) → Reads old first t s.letter.unit wanted then'
@@ -587,7 +587,7 @@ reads_seat old n s name first t wanted then' there opens unit enough tree = reco
 }
 
 -- its blocks may be read
-pub open_seat : (told : Told) (t : Accesses) (n : ℕ) (s : Seated) (unit : UnitInfo) (name : Name) (first : Reading) → item_at t.seats n ≡ Some s
+pub open_seat : (told : Told) (t : AccessTable) (n : ℕ) (s : Seated) (unit : UnitInfo) (name : Name) (first : Cursor) → item_at t.seats n ≡ Some s
     → slice_get t.units s.letter.unit ≡ Some unit → StartsAt name s.disk.volume first → Usable told t → IsOpen told first
 open_seat told t n s unit name first there has starts usable j is =
     let at = starts.first.unit in

@@ -17,7 +17,7 @@ use Rattle.cms_machine.proofs.Feed.{ended_chain, extended-append, extended-nil}
 use Rattle.cms_machine.proofs.Pieces.{disk_silent, typed_silent}
 use Rattle.cms_machine.proofs.Waits.{no_read}
 use Rattle.cms_machine.proofs.Whole.{chain_told, part_no_script}
-use Rattle.cms_line.specs.ConsoleState.{ConsoleState, state}
+use Rattle.cms_line.specs.ConsoleState.{Console, state}
 use Rattle.cms_line.specs.Consoles.{Stayed, Took, item_of}
 use Rattle.cms_line.specs.declared.console.ConsoleLine.{ConsoleLine}
 use Rattle.cms_world.specs.Seen.{Seen}
@@ -79,7 +79,7 @@ plays_unread {R = R} p q t (Err e) d ended broke =
 
 -- a call that leaves whichever console reads nothing
 pub unread_talks : {R T : Type 0} (before now : Seen) (t : Act R) (r : Result T End) (d : T → R)
-    → ((c : ConsoleState) → Talks before now c c t r d) → ReadsNone before.told now.told
+    → ((c : Console) → Talks before now c c t r d) → ReadsNone before.told now.told
 unread_talks {T = T} before now t r d talks =
     let c = state 0 [] true in
     let x = plays_unread {T = T} (standing before.told c 0 [] []) (standing now.told c 0 [] []) t r d refl ((talks c).each 0 [] []) in
@@ -88,7 +88,7 @@ unread_talks {T = T} before now t r d talks =
 -- ---- what is kept
 
 -- nothing was read
-pub keeps_none : (told : Told) (c : ConsoleState) (left : ℕ) → KeepsRead told told c c left left
+pub keeps_none : (told : Told) (c : Console) (left : ℕ) → KeepsRead told told c c left left
 keeps_none told c left = record {
   events = [];
   told = refl;
@@ -100,7 +100,7 @@ keeps_none told c left = record {
 }
 
 -- a call read nothing
-pub keeps_still : (old mid new : Told) (was c : ConsoleState) (all left : ℕ) → KeepsRead old mid was c all left → ReadsNone mid new → KeepsRead old new was c all left
+pub keeps_still : (old mid new : Told) (was c : Console) (all left : ℕ) → KeepsRead old mid was c all left → ReadsNone mid new → KeepsRead old new was c all left
 keeps_still old mid new was c all left k r = record {
   events = k.events ++ r.events;
   told = r.told ∙ ap (λ (j : Told). plus j r.events) k.told ∙ plus_plus old k.events r.events;
@@ -116,7 +116,7 @@ keeps_still old mid new was c all left k r = record {
 }
 
 -- more was read, and these items were taken of it
-keeps_on : (old mid new : Told) (was c now : ConsoleState) (all left less : ℕ) (es : List Event) (taken : List Item) → KeepsRead old mid was c all left
+keeps_on : (old mid new : Told) (was c now : Console) (all left less : ℕ) (es : List Event) (taken : List Item) → KeepsRead old mid was c all left
     → new ≡ plus mid es → OnlyRead es → Lazy c.unread c.ended es → All IsNoLine taken → less + length taken ≡ left → now.ended ≡ (c.ended || is_over es)
     → ((more : List ℕ) (e : Bool) → Goes now.ended more e → items (extended (extended c.unread (script es)) more) e ≡ taken ++ items (extended now.unread more) e)
     → KeepsRead old new was now all less
@@ -146,7 +146,7 @@ keeps_on old mid new was c now all left less es taken k told only lazy none turn
         (ap (λ (l : List ℕ). l ++ more) s ∙ g.0, g.1)
 
 -- no line was taken
-pub keeps_stayed : (old mid new : Told) (was c now : ConsoleState) (all left : ℕ) → KeepsRead old mid was c all left → Stayed mid new c now → KeepsRead old new was now all left
+pub keeps_stayed : (old mid new : Told) (was c now : Console) (all left : ℕ) → KeepsRead old mid was c all left → Stayed mid new c now → KeepsRead old new was now all left
 keeps_stayed old mid new was c now all left k s =
     keeps_on old mid new was c now all left left s.events [] k s.told s.only s.keeps.lazy (All-nil IsNoLine) (omega arith) s.keeps.over s.keeps.told
 
@@ -156,7 +156,7 @@ no_line no.Long = tt
 no_line no.Rest = tt
 
 -- an item that is no line was taken, and it is dropped for a turn
-pub keeps_dropped : (old mid half new : Told) (was c now : ConsoleState) (all left less : ℕ) (l : ConsoleLine) (n : NoLine) → KeepsRead old mid was c all left
+pub keeps_dropped : (old mid half new : Told) (was c now : Console) (all left less : ℕ) (l : ConsoleLine) (n : NoLine) → KeepsRead old mid was c all left
     → Took mid half c now l → item_of l ≡ Some (item_in n) → left ≡ suc less → ReadsNone half new → KeepsRead old new was now all less
 keeps_dropped old mid half new was c now all left less l n k t is some r =
     keeps_still old half new was now all less

@@ -14,14 +14,14 @@ use Rattle.cms_search.specs.Calls.{Spot, Usable, holds, machine_of}
 use Rattle.cms_search.specs.Held.{HoldsTable, HoldsUnit, KeepsWhatIsLeft, StandsAs, disk_of}
 use Rattle.cms_search.specs.Searches.{item_at}
 use Rattle.cms_search.specs.Shows.{Shows}
-use Rattle.cms_search.specs.Tables.{Accesses, Seated, letters_in}
+use Rattle.cms_search.specs.Tables.{AccessTable, Seated, letters_in}
 use Rattle.cms_search.proofs.IdleEvents.{holds_some}
 use Rattle.cms_search.proofs.Searches.{item_at_map}
 use Rattle.cms_search.proofs.Seats.{disk_there}
 use Rattle.cms_search.proofs.Tables.{get_some, unit_within}
 
 -- the line of the disk's unit, and the minidisk at which it is settled
-pub record Met (j : Journal) (units : List Slot) (t : Accesses) (s : Seated) : Type 0 where
+pub record Met (j : Journal) (units : List Slot) (t : AccessTable) (s : Seated) : Type 0 where
   pub unit : UnitInfo
   pub has : slice_get t.units s.letter.unit ≡ Some unit
   pub line : HoldsUnit j units t s.letter.unit unit
@@ -33,7 +33,7 @@ pub record Met (j : Journal) (units : List Slot) (t : Accesses) (s : Seated) : T
   pub looked : IsLookedAt j s.disk
   pub reading : KeepsWhatIsLeft j minidisk s
 
-pub meets : (j : Journal) (units : List Slot) (t : Accesses) (n : ℕ) (s : Seated) → HoldsTable j units t → item_at t.seats n ≡ Some s → Met j units t s
+pub meets : (j : Journal) (units : List Slot) (t : AccessTable) (n : ℕ) (s : Seated) → HoldsTable j units t → item_at t.seats n ≡ Some s → Met j units t s
 meets j units t n s h at =
     let within = unit_within t n s h.table at in
     let long = h.table.doubts in
@@ -71,7 +71,7 @@ meets_at old units n s at h =
     record { journal = held.0; told = held.1; table = held.2; met = meets held.0 units old.state.table n s held.2 at }
 
 -- the machine has the letter
-pub letter_is : (t : Accesses) (n : ℕ) (s : Seated) → item_at t.seats n ≡ Some s → item_at (letters_in t.seats) n ≡ Some s.letter
+pub letter_is : (t : AccessTable) (n : ℕ) (s : Seated) → item_at t.seats n ≡ Some s → item_at (letters_in t.seats) n ≡ Some s.letter
 letter_is t n s at = item_at_map (λ (x : Seated). x.letter) t.seats n ∙ ap (λ (x : Option Seated). option_map (λ (y : Seated). y.letter) x) at
 
 -- the table shows the machine, so that what is found on it is found there
@@ -87,7 +87,7 @@ holds_shows old units h = record {
 -- ---- what may be called
 
 -- the blocks of an accessed disk may be read
-pub readable_seat : (told : Told) (t : Accesses) (n : ℕ) (s : Seated) (unit : UnitInfo) → item_at t.seats n ≡ Some s → slice_get t.units s.letter.unit ≡ Some unit → Usable told t
+pub readable_seat : (told : Told) (t : AccessTable) (n : ℕ) (s : Seated) (unit : UnitInfo) → item_at t.seats n ≡ Some s → slice_get t.units s.letter.unit ≡ Some unit → Usable told t
     → ForSome told (λ j. IsReadable j s.disk)
 readable_seat told t n s unit at has usable j is =
     let on = ((usable j is).seats n s unit at has).on in

@@ -18,7 +18,7 @@ use Rattle.cms_search.specs.Places.{without_device}
 use Rattle.cms_search.specs.Release.{without_letter}
 use Rattle.cms_search.specs.Searches.{has, item_at}
 use Rattle.cms_search.specs.Shows.{device_of}
-use Rattle.cms_search.specs.Tables.{Accesses, IsTable, Seated, StandOnce, cleared, letters_in, letters_of, place_of_device, released}
+use Rattle.cms_search.specs.Tables.{AccessTable, IsTable, Seated, StandOnce, cleared, letters_in, letters_of, place_of_device, released}
 use Rattle.cms_search.specs.Units as releasing
 use Rattle.cms_search.specs.Units.{forgotten, letter_with, unit_with, vdev_of}
 use Rattle.cms_search.specs.declared.state.State.{State}
@@ -73,7 +73,7 @@ unit_told vdev units = position_map device_of (λ (d : Device). d.vdev == vdev) 
 pub letter_told : (seats : List (Option Seated)) (n : ℕ) → item_at (letters_in seats) n ≡ option_map (λ s. s.letter) (item_at seats n)
 letter_told seats n = item_at_map (λ (s : Seated). s.letter) seats n
 
-pub letters_left : (t : Accesses) (n : ℕ) → letters_of (released n t) ≡ cleared n (letters_of t)
+pub letters_left : (t : AccessTable) (n : ℕ) → letters_of (released n t) ≡ cleared n (letters_of t)
 letters_left t n = letters_cleared t.seats n
 
 forgot : (s : State) (units : List Slot) (x : Option Letter) (l : List (Option Letter))
@@ -134,7 +134,7 @@ disk_stays u (suc n) (None ∷ seats) other = disk_stays u n seats other
 disk_stays u (suc n) (Some s ∷ seats) other = ap (λ (x : Option Seated). cond (s.letter.unit == u) (Some s) x) (disk_stays u n seats other)
 
 -- the unit of a letter that is cleared has none
-pub disk_gone : (t : Accesses) (n : ℕ) (s : Seated) → StandOnce t.seats → item_at t.seats n ≡ Some s → disk_of s.letter.unit (cleared n t.seats) ≡ None
+pub disk_gone : (t : AccessTable) (n : ℕ) (s : Seated) → StandOnce t.seats → item_at t.seats n ≡ Some s → disk_of s.letter.unit (cleared n t.seats) ≡ None
 disk_gone t n s once at = disk_none s.letter.unit (cleared n t.seats)
     (λ a x is same. let there = stays t n a x is in there.0 (once a n x s there.1 at same))
 
@@ -149,7 +149,7 @@ quiet_seated j u unit slot s number is =
     (let e = is.1 in rw e tt, subst (λ (d : Disk). IsQuiet d j u) is.2.disk (subst (λ (v : ℕ). IsQuiet s.disk.volume.disk j v) number' quiet))
 
 -- a line with the disk of its unit as it is then
-pub held_with : (j : Journal) (units : List Slot) (t t' : Accesses) (u : ℕ) (unit : UnitInfo) (h : HoldsUnit j units t u unit) → slice_get t'.doubts u ≡ slice_get t.doubts u
+pub held_with : (j : Journal) (units : List Slot) (t t' : AccessTable) (u : ℕ) (unit : UnitInfo) (h : HoldsUnit j units t u unit) → slice_get t'.doubts u ≡ slice_get t.doubts u
     → StandsAs j u unit h.slot h.doubt (disk_of u t'.seats) → HoldsUnit j units t' u unit
 held_with j units t t' u unit h doubts stands = record {
   number = h.number;
@@ -166,7 +166,7 @@ held_with j units t t' u unit h doubts stands = record {
   has = h.has;
 }
 
-pub stands_left : (j : Journal) (u : ℕ) (unit : UnitInfo) (slot : Slot) (doubt : Bool) (t : Accesses) (n : ℕ) → unit.unit.number ≡ u → IsTable t
+pub stands_left : (j : Journal) (u : ℕ) (unit : UnitInfo) (slot : Slot) (doubt : Bool) (t : AccessTable) (n : ℕ) → unit.unit.number ≡ u → IsTable t
     → slice_get t.doubts u ≡ Some doubt → StandsAs j u unit slot doubt (disk_of u t.seats) → StandsAs j u unit slot doubt (disk_of u (cleared n t.seats))
 stands_left j u unit slot true t n number is mark stands = stands
 stands_left j u unit slot false t n number is mark stands = cases (item_at t.seats n) refl
@@ -186,7 +186,7 @@ stands_left j u unit slot false t n number is mark stands = cases (item_at t.sea
           subst (λ (d : Option Seated). StandsAs j u unit slot false d) (sym e) stands
     ]
 
-pub holds_left : (j : Journal) (units : List Slot) (t : Accesses) (n : ℕ) → HoldsTable j units t → HoldsTable j units (released n t)
+pub holds_left : (j : Journal) (units : List Slot) (t : AccessTable) (n : ℕ) → HoldsTable j units t → HoldsTable j units (released n t)
 holds_left j units t n h = record {
   table = table_released t n h.table;
   same = h.same;
@@ -197,7 +197,7 @@ holds_left j units t n h = record {
 }
 
 -- what may be used may be used still
-pub usable_left : (j : Journal) (t : Accesses) (n : ℕ) → IsUsableTable j t → IsUsableTable j (released n t)
+pub usable_left : (j : Journal) (t : AccessTable) (n : ℕ) → IsUsableTable j t → IsUsableTable j (released n t)
 usable_left j t n u = record { units = u.units; seats = λ a x unit at has. u.seats a x unit (stays t n a x at).1 has }
 
 -- ---- the state
@@ -206,7 +206,7 @@ pub some_of : {A : Type 0} (x : Option A) → IsSome x → (a : A) × (x ≡ Som
 some_of None is = absurd (cc is)
 some_of (Some a) is = (a, refl)
 
-pub state_left : (s : State) (n : ℕ) (t : Accesses) (places : Places) → t ≡ released n s.table → places ≡ (releasing.released n (machine_of s [])).places
+pub state_left : (s : State) (n : ℕ) (t : AccessTable) (places : Places) → t ≡ released n s.table → places ≡ (releasing.released n (machine_of s [])).places
     → record s { table = t; places = places } ≡ without_letter n s
 state_left s n t places table kept =
-    ap (λ (x : Accesses). record s { table = x; places = places }) table ∙ ap (λ (p : Places). record s { table = released n s.table; places = p }) kept
+    ap (λ (x : AccessTable). record s { table = x; places = places }) table ∙ ap (λ (p : Places). record s { table = released n s.table; places = p }) kept

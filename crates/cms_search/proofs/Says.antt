@@ -9,7 +9,7 @@ use Rattle.cms_machine.specs.Acts.{Act, Done, saying, typed_line}
 use Rattle.cms_machine.specs.Beats.{IsTyped, OnlyTyped}
 use Rattle.cms_machine.proofs.Single.{ran_out, broke_out, broke_before}
 use Rattle.cms_journal.proofs.Pieces.{idle_same}
-use Rattle.cms_line.specs.Typing.{TypedTo, TypedPart}
+use Rattle.cms_line.specs.Typed.{TypedTo, TypedPart}
 use Rattle.cms_journal.specs.Causes.{Rose}
 use Rattle.cms_search.specs.declared.state.End.{End}
 use Rattle.cms_search.specs.declared.state.End.TheVariants.{Memory, Edge}

@@ -11,7 +11,7 @@ use Rattle.cms_search.specs.Held.{disk_of}
 use Rattle.cms_search.specs.Machine.{Letter}
 use Rattle.cms_search.specs.Searches.{item_at}
 use Rattle.cms_search.specs.Seats.{HasDisk}
-use Rattle.cms_search.specs.Tables.{Accesses, IsReadingOf, IsTable, KeepsItsOwn, Seated, StandOnce, cleared, letters_in, reading_on, seat_with, with_disk, with_reading}
+use Rattle.cms_search.specs.Tables.{AccessTable, IsReadingOf, IsTable, KeepsItsOwn, Seated, StandOnce, cleared, letters_in, reading_on, seat_with, with_disk, with_reading}
 use Rattle.cms_search.specs.declared.readings.KeptReading.{KeptReading}
 use Rattle.cms_search.proofs.Tables.{item_put}
 
@@ -118,11 +118,11 @@ disk_elsewhere seats n s x u once once' at own apart = disk_same seats (slice_se
 abbrev pub seat_as : Seated → Accessed → Option KeptReading → Seated
 seat_as s d r = record s { disk = d; reading = r }
 
-abbrev pub table_as : Accesses → ℕ → Seated → Accessed → Option KeptReading → Accesses
+abbrev pub table_as : AccessTable → ℕ → Seated → Accessed → Option KeptReading → AccessTable
 table_as t n s d r = record t { seats = slice_set t.seats n (Some (seat_as s d r)) }
 
 -- each seat then was there with the same marks
-was : (t : Accesses) (n : ℕ) (s : Seated) (d : Accessed) (r : Option KeptReading) → item_at t.seats n ≡ Some s → (a : ℕ) (x : Seated)
+was : (t : AccessTable) (n : ℕ) (s : Seated) (d : Accessed) (r : Option KeptReading) → item_at t.seats n ≡ Some s → (a : ℕ) (x : Seated)
     → item_at (slice_set t.seats n (Some (seat_as s d r))) a ≡ Some x → (y : Seated) × (item_at t.seats a ≡ Some y) × (x.letter ≡ y.letter)
 was t n s d r at a x is = ⊎_elim
     (λ (h : (a ≡ n) × (Some (seat_as s d r) ≡ Some x)).
@@ -131,19 +131,19 @@ was t n s d r at a x is = ⊎_elim
     (item_put t.seats n (Some (seat_as s d r)) a x is)
 
 -- with another disk no reading is kept
-abbrev pub table_with : Accesses → ℕ → Seated → Accessed → Accesses
+abbrev pub table_with : AccessTable → ℕ → Seated → Accessed → AccessTable
 table_with t n s d = table_as t n s d None
 
-abbrev pub table_reading : Accesses → ℕ → Seated → Option KeptReading → Accesses
+abbrev pub table_reading : AccessTable → ℕ → Seated → Option KeptReading → AccessTable
 table_reading t n s r = table_as t n s s.disk r
 
-pub with_disk_is : (t : Accesses) (n : ℕ) (s : Seated) (d : Accessed) → item_at t.seats n ≡ Some s → with_disk n d t ≡ table_with t n s d
+pub with_disk_is : (t : AccessTable) (n : ℕ) (s : Seated) (d : Accessed) → item_at t.seats n ≡ Some s → with_disk n d t ≡ table_with t n s d
 with_disk_is t n s d at = rw at refl
 
-pub with_reading_is : (t : Accesses) (n : ℕ) (s : Seated) (r : Option KeptReading) → item_at t.seats n ≡ Some s → with_reading n r t ≡ table_reading t n s r
+pub with_reading_is : (t : AccessTable) (n : ℕ) (s : Seated) (r : Option KeptReading) → item_at t.seats n ≡ Some s → with_reading n r t ≡ table_reading t n s r
 with_reading_is t n s r at = rw at refl
 
-pub is_table_as : (t : Accesses) (n : ℕ) (s : Seated) (d : Accessed) (r : Option KeptReading) → IsTable t → item_at t.seats n ≡ Some s → IfSome r (IsReadingOf d)
+pub is_table_as : (t : AccessTable) (n : ℕ) (s : Seated) (d : Accessed) (r : Option KeptReading) → IsTable t → item_at t.seats n ≡ Some s → IfSome r (IsReadingOf d)
     → IsTable (table_as t n s d r)
 is_table_as t n s d r is at own = record {
   distinct = is.distinct;
@@ -162,7 +162,7 @@ is_table_as t n s d r is at own = record {
       (item_put t.seats n (Some (seat_as s d r)) a x is_x);
 }
 
-pub is_table_with : (t : Accesses) (n : ℕ) (s : Seated) (d : Accessed) → IsTable t → item_at t.seats n ≡ Some s → IsTable (table_with t n s d)
+pub is_table_with : (t : AccessTable) (n : ℕ) (s : Seated) (d : Accessed) → IsTable t → item_at t.seats n ≡ Some s → IsTable (table_with t n s d)
 is_table_with t n s d is at = is_table_as t n s d None is at tt
 
 -- the letters are the same
@@ -181,7 +181,7 @@ letters_cleared (x ∷ seats) zero = refl
 letters_cleared (x ∷ seats) (suc n) = ap (λ (l : List (Option Letter)). option_map (λ (z : Seated). z.letter) x ∷ l) (letters_cleared seats n)
 
 -- a letter that is cleared then is cleared before
-pub cleared_with : (t : Accesses) (n : ℕ) (s : Seated) (d : Accessed) → cleared n (table_with t n s d).seats ≡ cleared n t.seats
+pub cleared_with : (t : AccessTable) (n : ℕ) (s : Seated) (d : Accessed) → cleared n (table_with t n s d).seats ≡ cleared n t.seats
 cleared_with t n s d = set_twice t.seats n (Some (seat_with s d)) None
 
 -- ---- a seat that is read and changed in its place
@@ -195,14 +195,14 @@ no_seat : (x : Option Seated) → x ≡ None → IsSome x → ⊥
 no_seat None is some = absurd (cc some)
 no_seat (Some s) is some = absurd (cc is)
 
-has_disk : (IsSo : Seated → Accessed → Type 0) (t new : Accesses) (n : ℕ) (s : Seated) (disk : Accessed) → item_at t.seats n ≡ Some s → new ≡ table_with t n s disk → IsSo s disk
+has_disk : (IsSo : Seated → Accessed → Type 0) (t new : AccessTable) (n : ℕ) (s : Seated) (disk : Accessed) → item_at t.seats n ≡ Some s → new ≡ table_with t n s disk → IsSo s disk
     → IfSome (item_at t.seats n) (λ x. HasDisk t new n (IsSo x))
 has_disk IsSo t new n s disk at is does = rw at (record { disk = disk; table = is ∙ sym (with_disk_is t n s disk at); does = does })
 
 -- the place of letter n, which is accessed, has x; the table of these parts is the one shown
-module _ (t shown : Accesses) (n : ℕ) (x : Option Seated) (view : t ≡ shown) (accessed : IsSome (item_at shown.seats n)) (value : x ≡ get_or t.seats n x) where
+module _ (t shown : AccessTable) (n : ℕ) (x : Option Seated) (view : t ≡ shown) (accessed : IsSome (item_at shown.seats n)) (value : x ≡ get_or t.seats n x) where
   some_there : IsSome (item_at t.seats n)
-  some_there = subst (λ (y : Accesses). IsSome (item_at y.seats n)) (sym view) accessed
+  some_there = subst (λ (y : AccessTable). IsSome (item_at y.seats n)) (sym view) accessed
 
   -- so it is no empty place
   pub seat_lost : x ≡ None → ⊥
@@ -216,28 +216,28 @@ module _ (t shown : Accesses) (n : ℕ) (x : Option Seated) (view : t ≡ shown)
   table_kept s has d table is same = is_table_with t n s d table (seat_at s has is same)
 
   -- and the letter has that disk
-  pub seat_changed : (IsSo : Seated → Accessed → Type 0) (new : Accesses) (s has : Seated) (d : Accessed) → x ≡ Some has → s ≡ has → new ≡ table_with t n s d → IsSo s d
+  pub seat_changed : (IsSo : Seated → Accessed → Type 0) (new : AccessTable) (s has : Seated) (d : Accessed) → x ≡ Some has → s ≡ has → new ≡ table_with t n s d → IsSo s d
       → IfSome (item_at shown.seats n) (λ y. HasDisk shown new n (IsSo y))
   seat_changed IsSo new s has d is same put does =
-      subst (λ (y : Accesses). IfSome (item_at y.seats n) (λ z. HasDisk y new n (IsSo z))) view (has_disk IsSo t new n s d (seat_at s has is same) put does)
+      subst (λ (y : AccessTable). IfSome (item_at y.seats n) (λ z. HasDisk y new n (IsSo z))) view (has_disk IsSo t new n s d (seat_at s has is same) put does)
 
   -- or it keeps another reading, and is a table still
   pub table_reads : (s has : Seated) (r : Option KeptReading) → IsTable t → x ≡ Some has → s ≡ has → IfSome r (IsReadingOf s.disk) → IsTable (table_reading t n s r)
   table_reads s has r table is same own = is_table_as t n s s.disk r table (seat_at s has is same) own
 
-  pub reading_set : (new : Accesses) (s has : Seated) (r : Option KeptReading) → x ≡ Some has → s ≡ has → new ≡ table_reading t n s r → new ≡ with_reading n r shown
-  reading_set new s has r is same put = put ∙ (sym (with_reading_is t n s r (seat_at s has is same)) ∙ ap (λ (y : Accesses). with_reading n r y) view)
+  pub reading_set : (new : AccessTable) (s has : Seated) (r : Option KeptReading) → x ≡ Some has → s ≡ has → new ≡ table_reading t n s r → new ≡ with_reading n r shown
+  reading_set new s has r is same put = put ∙ (sym (with_reading_is t n s r (seat_at s has is same)) ∙ ap (λ (y : AccessTable). with_reading n r y) view)
 
   -- the one that it kept
   pub reading_was : (s has : Seated) → x ≡ Some has → s ≡ has → reading_on shown n ≡ s.reading
   reading_was s has is same =
-      ap (λ (y : Accesses). reading_on y n) (sym view) ∙ ap (λ (y : Option Seated). option_and_then (λ (z : Seated). z.reading) y) (seat_at s has is same)
+      ap (λ (y : AccessTable). reading_on y n) (sym view) ∙ ap (λ (y : Option Seated). option_and_then (λ (z : Seated). z.reading) y) (seat_at s has is same)
 
   -- which was of its own
   pub reading_own : (s has : Seated) (r : KeptReading) → IsTable t → x ≡ Some has → s ≡ has → s.reading ≡ Some r → ForSome (item_at shown.seats n) (λ y. IsReadingOf y.disk r)
   reading_own s has r table is same keeps y there =
       let at = seat_at s has is same in
-      let here : item_at t.seats n ≡ Some y = subst (λ (z : Accesses). item_at z.seats n ≡ Some y) (sym view) there in
+      let here : item_at t.seats n ≡ Some y = subst (λ (z : AccessTable). item_at z.seats n ≡ Some y) (sym view) there in
       let own : IsReadingOf s.disk r = subst (λ (z : Option KeptReading). IfSome z (IsReadingOf s.disk)) keeps (table.readings n s at) in
       subst (λ (z : Seated). IsReadingOf z.disk r) (same_Some s y (sym at ∙ here)) own
 
@@ -248,7 +248,7 @@ set_same (x ∷ xs) zero e is = ap (λ (y : Option _). y ∷ xs) (sym is)
 set_same (x ∷ xs) (suc n) e is = ap (λ (l : List (Option _)). x ∷ l) (set_same xs n e is)
 
 -- where it keeps no reading
-pub has_same : (IsSo : Accessed → Type 0) (t : Accesses) (n : ℕ) (s : Seated) → item_at t.seats n ≡ Some s → s.reading ≡ None → IsSo s.disk → HasDisk t t n IsSo
+pub has_same : (IsSo : Accessed → Type 0) (t : AccessTable) (n : ℕ) (s : Seated) → item_at t.seats n ≡ Some s → s.reading ≡ None → IsSo s.disk → HasDisk t t n IsSo
 has_same IsSo t n s at none does = record {
   disk = s.disk;
   table = sym (with_disk_is t n s s.disk at
@@ -257,7 +257,7 @@ has_same IsSo t n s at none does = record {
 }
 
 -- and the last of two disks
-pub with_disk_twice : (t : Accesses) (n : ℕ) (s : Seated) (d e : Accessed) → item_at t.seats n ≡ Some s → with_disk n e (with_disk n d t) ≡ with_disk n e t
+pub with_disk_twice : (t : AccessTable) (n : ℕ) (s : Seated) (d e : Accessed) → item_at t.seats n ≡ Some s → with_disk n e (with_disk n d t) ≡ with_disk n e t
 with_disk_twice t n s d e at =
     let there = item_here t.seats n (Some (seat_with s d)) (item_within t.seats n s at) in
     ap (with_disk n e) (with_disk_is t n s d at)
@@ -265,8 +265,8 @@ with_disk_twice t n s d e at =
     ∙ (ap (λ (l : List (Option Seated)). record t { seats = l }) (set_twice t.seats n (Some (seat_with s d)) (Some (seat_with s e))) ∙ sym (with_disk_is t n s e at)))
 
 -- and is accessed still, as the same unit
-pub seat_there : {IsSo : Accessed → Type 0} (t new : Accesses) (n : ℕ) (s : Seated) → item_at t.seats n ≡ Some s → (h : HasDisk t new n IsSo)
+pub seat_there : {IsSo : Accessed → Type 0} (t new : AccessTable) (n : ℕ) (s : Seated) → item_at t.seats n ≡ Some s → (h : HasDisk t new n IsSo)
     → item_at new.seats n ≡ Some (seat_with s h.disk)
 seat_there t new n s at h =
-    ap (λ (x : Accesses). item_at x.seats n) (h.table ∙ with_disk_is t n s h.disk at)
+    ap (λ (x : AccessTable). item_at x.seats n) (h.table ∙ with_disk_is t n s h.disk at)
     ∙ item_here t.seats n (Some (seat_with s h.disk)) (item_within t.seats n s at)

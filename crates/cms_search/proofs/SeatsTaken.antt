@@ -10,7 +10,7 @@ use Rattle.cms_machine.specs.Slots.{Slot}
 use Rattle.cms_disk.specs.declared.unit.UnitInfo.{UnitInfo}
 use Rattle.cms_search.specs.Held.{StandsAs, disk_of}
 use Rattle.cms_search.specs.Machine.{Letter}
-use Rattle.cms_search.specs.Tables.{Accesses, IsTable, Seated, cleared, letters_in, put_on, seated, without}
+use Rattle.cms_search.specs.Tables.{AccessTable, IsTable, Seated, cleared, letters_in, put_on, seated, without}
 use Rattle.cms_search.proofs.Released.{stands_left}
 use Rattle.cms_search.proofs.Seats.{disk_there, item_here}
 
@@ -48,13 +48,13 @@ disk_beside v n s seats apart =
 -- ---- what is held
 
 -- another unit is settled still, where it leaves the letter too
-pub stands_beside : (j : Journal) (v : ℕ) (unit : UnitInfo) (slot : Slot) (doubt : Bool) (t : Accesses) (n : ℕ) (s : Seated) → unit.unit.number ≡ v → IsTable t
+pub stands_beside : (j : Journal) (v : ℕ) (unit : UnitInfo) (slot : Slot) (doubt : Bool) (t : AccessTable) (n : ℕ) (s : Seated) → unit.unit.number ≡ v → IsTable t
     → slice_get t.doubts v ≡ Some doubt → s.letter.unit ≢ v → StandsAs j v unit slot doubt (disk_of v t.seats) → StandsAs j v unit slot doubt (disk_of v (seated n s t).seats)
 stands_beside j v unit slot doubt t n s number is mark apart stands =
     subst (λ (d : Option Seated). StandsAs j v unit slot doubt d) (sym (disk_beside v n s t.seats apart)) (stands_left j v unit slot doubt t n number is mark stands)
 
 -- the unit of the disk has it
-pub disk_seated : (t : Accesses) (n : ℕ) (s : Seated) → n < length t.seats → IsTable (seated n s t) → disk_of s.letter.unit (seated n s t).seats ≡ Some s
+pub disk_seated : (t : AccessTable) (n : ℕ) (s : Seated) → n < length t.seats → IsTable (seated n s t) → disk_of s.letter.unit (seated n s t).seats ≡ Some s
 disk_seated t n s less is =
     let xs = without (λ e. e.letter.unit == s.letter.unit) t.seats in
     let long : length xs ≡ length t.seats = length-map t.seats _ in

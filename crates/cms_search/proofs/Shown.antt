@@ -8,18 +8,18 @@ use Rattle.cms_names.specs.declared.name.Name.{Name}
 use Rattle.cms_model.specs.Minidisks.{File, Minidisk, same_name}
 use Rattle.cms_model.specs.Trees.{Image}
 use Rattle.cms_model.specs.LawsChanges.{NoneNamed, AreDistinct, IsPlace}
-use Rattle.cms_model.proofs.Changing.{names_told, name_other}
+use Rattle.cms_model.proofs.ListChanges.{names_told, name_other}
 use Rattle.cms_model.proofs.OpenedNames.{opened_distinct}
 use Rattle.cms_machine.specs.Slots.{Slot}
-use Rattle.cms_held.specs.Opening.{HeldFile, HeldVolume, names_in}
-use Rattle.cms_edf.specs.Asking.{info_of, infos_in}
+use Rattle.cms_held.specs.HeldVolumes.{HeldFile, HeldVolume, names_in}
+use Rattle.cms_edf.specs.FilesTold.{info_of, infos_in}
 use Rattle.cms_held.specs.LawsHeld.{IsFound}
 use Rattle.cms_edf.specs.declared.held.FileInfo.{FileInfo}
 use Rattle.cms_disk.specs.Disks.{Accessed, StandsIn, place_of}
-use Rattle.cms_disk.proofs.Finding.{stands_tells}
+use Rattle.cms_disk.proofs.FilesFound.{stands_tells}
 use Rattle.cms_search.specs.Machine.{Letter, Machine, minidisk_in}
 use Rattle.cms_search.specs.Searches.{Listed, Shelf, Shelves, item_at, places_from, places_where, listed, shelf_in, shelves_in, may_find, is_found, found_at, found_in, found_on, found_among, first_found, look_up, placed_in, placed_on, first_placed, first_among, find_first, letters_of_mode}
-use Rattle.cms_search.specs.Tables.{Accesses, Seated, listed_held, told_of, shelf_of, shelves_of, letters_in}
+use Rattle.cms_search.specs.Tables.{AccessTable, Seated, listed_held, told_of, shelf_of, shelves_of, letters_in}
 use Rattle.cms_search.specs.Shows.{Shows}
 use Rattle.cms_search.specs.declared.fault.SearchFault.{SearchFault}
 use Rattle.cms_operands.specs.declared.mode.ReadMode.{ReadMode}
@@ -27,10 +27,10 @@ use Rattle.cms_search.proofs.Searches.{item_at_map}
 
 -- ---- the disk of a letter
 
-pub shelf_at : (t : Accesses) (n : ℕ) (s : Seated) → item_at t.seats n ≡ Some s → item_at (shelves_of t) n ≡ Some (shelf_of s)
+pub shelf_at : (t : AccessTable) (n : ℕ) (s : Seated) → item_at t.seats n ≡ Some s → item_at (shelves_of t) n ≡ Some (shelf_of s)
 shelf_at t n s at = item_at_map shelf_of t.seats n ∙ ap (λ (x : Option Seated). option_map shelf_of x) at
 
-pub shelf_none : (t : Accesses) (n : ℕ) → item_at t.seats n ≡ None → item_at (shelves_of t) n ≡ None
+pub shelf_none : (t : AccessTable) (n : ℕ) → item_at t.seats n ≡ None → item_at (shelves_of t) n ≡ None
 shelf_none t n at = item_at_map shelf_of t.seats n ∙ ap (λ (x : Option Seated). option_map shelf_of x) at
 
 -- ---- the place of a name
@@ -57,12 +57,12 @@ told_listed [] k = refl
 told_listed (h ∷ hs) zero = refl
 told_listed (h ∷ hs) (suc k) = told_listed hs k
 
-pub placed_none : (t : Accesses) (mode : ReadMode) (name : Name) (n : ℕ) (s : Seated) → item_at t.seats n ≡ Some s → place_of name s.disk.volume ≡ None
+pub placed_none : (t : AccessTable) (mode : ReadMode) (name : Name) (n : ℕ) (s : Seated) → item_at t.seats n ≡ Some s → place_of name s.disk.volume ≡ None
     → placed_on (shelves_of t) mode name n ≡ None
 placed_none t mode name n s at none =
     let e = shelf_at t n s at in let p = position_named name s.disk.volume ∙ none in rw (e, p) refl
 
-pub placed_some : (t : Accesses) (mode : ReadMode) (name : Name) (n : ℕ) (s : Seated) (k : ℕ) (info : FileInfo) (b : Bool) → item_at t.seats n ≡ Some s
+pub placed_some : (t : AccessTable) (mode : ReadMode) (name : Name) (n : ℕ) (s : Seated) (k : ℕ) (info : FileInfo) (b : Bool) → item_at t.seats n ≡ Some s
     → place_of name s.disk.volume ≡ Some k → slice_get (infos_in s.disk.volume) k ≡ Some info → may_find mode s.letter info.number ≡ b
     → placed_on (shelves_of t) mode name n ≡ cond b (Some k) None
 placed_some t mode name n s k info b at some told finds =
@@ -183,7 +183,7 @@ shelves_same units (Some s ∷ seats) each =
     let rest = shelves_same units seats (λ n x at. each (suc n) x at) in
     rw (first, rest) refl
 
-pub shelves_shown : (t : Accesses) (s : Machine) → Shows t s → shelves_of t ≡ shelves_in s
+pub shelves_shown : (t : AccessTable) (s : Machine) → Shows t s → shelves_of t ≡ shelves_in s
 shelves_shown t s shows =
     shelves_same s.units t.seats (λ n seat at. let e = shows.each n seat at in files_shown s.units seat e.1 e.2 (stands_listed e.0 seat.disk e.1 e.3))
     ∙ ap (λ (ls : List (Option Letter)). map (λ x. option_map (λ letter. shelf_in s.units letter) x) ls) shows.letters
@@ -212,12 +212,12 @@ module _ (shelves : Shelves) (mode : ReadMode) (name : Name) (each : (n : ℕ) (
   among_is (Ok ns) = first_is ns
   among_is (Err e) = refl
 
-seat_shelf : (t : Accesses) (n : ℕ) (x : Option Seated) (shelf : Shelf) → item_at t.seats n ≡ x → option_map shelf_of x ≡ Some shelf
+seat_shelf : (t : AccessTable) (n : ℕ) (x : Option Seated) (shelf : Shelf) → item_at t.seats n ≡ x → option_map shelf_of x ≡ Some shelf
     → (s : Seated) × (item_at t.seats n ≡ Some s) × (shelf_of s ≡ shelf)
 seat_shelf t n None shelf at is = absurd (cc is)
 seat_shelf t n (Some s) shelf at is = (s, at, same_Some (shelf_of s) shelf is)
 
-pub finds_shown : (t : Accesses) (s : Machine) (mode : ReadMode) (name : Name) → Shows t s → find_first (shelves_of t) mode name ≡ look_up (shelves_in s) mode name
+pub finds_shown : (t : AccessTable) (s : Machine) (mode : ReadMode) (name : Name) → Shows t s → find_first (shelves_of t) mode name ≡ look_up (shelves_in s) mode name
 finds_shown t s mode name shows =
     among_is (shelves_of t) mode name each (letters_of_mode (shelves_of t) mode) ∙ ap (λ (x : Shelves). look_up x mode name) (shelves_shown t s shows)
   where

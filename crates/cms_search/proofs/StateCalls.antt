@@ -5,20 +5,20 @@ use Rattle.cms_journal.specs.Told.{Told}
 use Rattle.cms_machine.specs.Acts.{Act, Done, saying, typed_line}
 use Rattle.cms_machine.specs.Slots.{Slot}
 use Rattle.cms_machine.proofs.Join.{ran_none}
-use Rattle.cms_line.specs.ConsoleState.{ConsoleState}
+use Rattle.cms_line.specs.ConsoleState.{Console}
 use Rattle.cms_line.specs.Messages.{message_text}
 use Rattle.cms_line.specs.declared.message.Message.{Message}
 use Rattle.cms_search.specs.Calls.{Acts, Does, IsLater, IsUsable, Meaning, Spot, Usable, Holds, at, course_of, holds, machine_of, refusal_tree, said, spot_at}
 use Rattle.cms_line.specs.declared.token.Token.{Token}
 use Rattle.cms_operands.specs.Choices.{AnswersLine}
 use Rattle.cms_operands.specs.Refusals.{code_of, message_of}
-use Rattle.cms_operands.specs.declared.choosing.CommandFault.{CommandFault}
-use Rattle.cms_operands.specs.declared.choosing.CommandFault.TheVariants as line
+use Rattle.cms_operands.specs.declared.options.CommandFault.{CommandFault}
+use Rattle.cms_operands.specs.declared.options.CommandFault.TheVariants as line
 use Rattle.cms_operands.specs.declared.refusal.Refusal.{Refusal}
 use Rattle.cms_search.specs.LineRefused.{RefusesLine}
 use Rattle.cms_search.specs.Machine.{Course, Machine}
 use Rattle.cms_search.specs.Refusals.{on_line}
-use Rattle.cms_search.specs.Tables.{Accesses, released}
+use Rattle.cms_search.specs.Tables.{AccessTable, released}
 use Rattle.cms_search.specs.declared.state.Course as declared
 use Rattle.cms_search.specs.declared.state.Course.TheVariants as course
 use Rattle.cms_search.specs.declared.state.End.{End}
@@ -32,7 +32,7 @@ use Rattle.cms_search.proofs.Released.{holds_left, usable_left}
 at_same : (old new : Spot) (units : List Slot) → new.world ≡ old.world → new.state.console ≡ old.state.console → at new units ≡ at old units
 at_same old new units world console =
     ap (λ (w : Seen). record { journal = w.told; faults = w.faults; units = units; unread = new.state.console.unread; ended = new.state.console.ended; objects = [] }) world
-    ∙ ap (λ (c : ConsoleState). record { journal = old.world.told; faults = old.world.faults; units = units; unread = c.unread; ended = c.ended; objects = [] }) console
+    ∙ ap (λ (c : Console). record { journal = old.world.told; faults = old.world.faults; units = units; unread = c.unread; ended = c.ended; objects = [] }) console
 
 -- all of the tree is done, and only the state is another
 pub acts_stayed : {R T : Type 0} (old new : Spot) (t : List Slot → Act R) (x : T) (d : Meaning T R) → new.world ≡ old.world → new.state.console ≡ old.state.console
@@ -56,11 +56,11 @@ acts_refused old new t message code r does went same tree =
 
 -- ---- a released letter
 
-pub holds_released : (told : Told) (t : Accesses) (n : ℕ) (units : List Slot) → Holds told t units → Holds told (released n t) units
+pub holds_released : (told : Told) (t : AccessTable) (n : ℕ) (units : List Slot) → Holds told t units → Holds told (released n t) units
 holds_released None t n units h = absurd h
 holds_released (Some j) t n units h = holds_left j units t n h
 
-pub usable_released : (told : Told) (t : Accesses) (n : ℕ) → Usable told t → Usable told (released n t)
+pub usable_released : (told : Told) (t : AccessTable) (n : ℕ) → Usable told t → Usable told (released n t)
 usable_released told t n usable = λ j is. usable_left j t n (usable j is)
 
 -- ---- a command's line

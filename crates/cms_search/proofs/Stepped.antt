@@ -14,18 +14,18 @@ use Rattle.cms_machine.specs.Steps.{EitherFault, Good, Outcome, Put, Step, fault
 use Rattle.cms_machine.specs.Acts.{Act, Done, Out, bind, saying, typed_line}
 use Rattle.cms_machine.specs.Runs.{Ran}
 use Rattle.cms_machine.proofs.Single.{broke_before, ran_still}
-use Rattle.cms_line.specs.ConsoleState.{ConsoleState}
+use Rattle.cms_line.specs.ConsoleState.{Console}
 use Rattle.cms_line.specs.Messages.{message_text}
 use Rattle.cms_line.specs.declared.message.Message.TheVariants.{M105}
 use Rattle.cms_world.specs.Seen.{ChangesUnits, Seen}
-use Rattle.cms_edf.specs.Planning.{CanChange}
+use Rattle.cms_edf.specs.ChangePlans.{CanChange}
 use Rattle.cms_edf.specs.declared.change.Change as asked
-use Rattle.cms_disk.specs.Changing.{Appends, IsOnSame}
+use Rattle.cms_disk.specs.Changes.{Appends, IsOnSame}
 use Rattle.cms_disk.specs.Disks.{Accessed}
 use Rattle.cms_disk.specs.declared.fault.DiskFault.{DiskFault}
 use Rattle.cms_disk.specs.declared.fault.DiskFault.TheVariants as failed
 use Rattle.cms_disk.specs.declared.unit.UnitInfo.{UnitInfo}
-use Rattle.cms_disk.proofs.Standing.{minidisk_same}
+use Rattle.cms_disk.proofs.DisksTold.{minidisk_same}
 use Rattle.cms_search.specs.Calls.{Acts, Comes, Does, IsLater, IsSeatOf, IsUsable, IsUsableTable, Spot, Usable, at, holds, machine_of, said}
 use Rattle.cms_search.specs.Machine.{Letter, Machine, Places, Went, after_step}
 use Rattle.cms_search.specs.Places.{without_device}
@@ -35,7 +35,7 @@ use Rattle.cms_search.specs.FileWrites.{Updated}
 use Rattle.cms_search.specs.Seats.{MayChange}
 use Rattle.cms_search.specs.Shows.{device_of}
 use Rattle.cms_search.specs.DeviceSteps.{Changing, Did, HasFailed, IsChanged, IsFull, IsLimited, answered, behind, changing_by, changing_in, changing_of, changing_tree}
-use Rattle.cms_search.specs.Tables.{Accesses, Seated, doubted, letters_in, seat_with, writing}
+use Rattle.cms_search.specs.Tables.{AccessTable, Seated, doubted, letters_in, seat_with, writing}
 use Rattle.cms_search.specs.Texts.{device_text}
 use Rattle.cms_search.specs.declared.state.Course as declared
 use Rattle.cms_search.specs.declared.state.Course.TheVariants as course
@@ -68,11 +68,11 @@ written_seat : (x : Option Seated) (n : ℕ) → writing (option_map (λ (s : Se
 written_seat None n is = absurd (cc is)
 written_seat (Some s) n is = (s, refl)
 
-pub written_at : (t : Accesses) (n : ℕ) → writing (item_at (letters_in t.seats) n) n ≡ Ok tt → (s : Seated) × (item_at t.seats n ≡ Some s)
+pub written_at : (t : AccessTable) (n : ℕ) → writing (item_at (letters_in t.seats) n) n ≡ Ok tt → (s : Seated) × (item_at t.seats n ≡ Some s)
 written_at t n is =
     written_seat (item_at t.seats n) n (ap (λ (x : Option Letter). writing x n) (sym (item_at_map (λ (s : Seated). s.letter) t.seats n)) ∙ is)
 
-pub may_change : (told : Told) (t : Accesses) (n : ℕ) (s : Seated) (unit : UnitInfo) (change : asked.Change) → item_at t.seats n ≡ Some s → slice_get t.units s.letter.unit ≡ Some unit
+pub may_change : (told : Told) (t : AccessTable) (n : ℕ) (s : Seated) (unit : UnitInfo) (change : asked.Change) → item_at t.seats n ≡ Some s → slice_get t.units s.letter.unit ≡ Some unit
     → CanChange s.disk.volume.files change → Usable told t → MayChange told s.disk change
 may_change told t n s unit change at has there usable = record {
   there = there;
@@ -82,7 +82,7 @@ may_change told t n s unit change at has there usable = record {
       subst (IsWritable j.units) (sym on.number) (((usable j is).units s.letter.unit unit has).writable (sym on.writable ∙ may));
 }
 
-pub usable_with : (j : Journal) (t : Accesses) (n : ℕ) (s : Seated) (e : Accessed) → item_at t.seats n ≡ Some s → IsOnSame s.disk e → IsUsableTable j t → IsUsableTable j (table_with t n s e)
+pub usable_with : (j : Journal) (t : AccessTable) (n : ℕ) (s : Seated) (e : Accessed) → item_at t.seats n ≡ Some s → IsOnSame s.disk e → IsUsableTable j t → IsUsableTable j (table_with t n s e)
 usable_with j t n s e at same u = record {
   units = u.units;
   seats = λ a x unit is has. ⊎_elim
@@ -94,7 +94,7 @@ usable_with j t n s e at same u = record {
       (item_put t.seats n (Some (seat_with s e)) a x is);
 }
 
-usable_doubted : (j : Journal) (t : Accesses) (n u : ℕ) → IsUsableTable j t → IsUsableTable j (doubted n u t)
+usable_doubted : (j : Journal) (t : AccessTable) (n u : ℕ) → IsUsableTable j t → IsUsableTable j (doubted n u t)
 usable_doubted j t n u usable = record { units = usable.units; seats = λ a x unit is has. usable.seats a x unit (stays t n a x is).1 has }
 
 -- the journal has grown, and no count has fallen
@@ -104,7 +104,7 @@ later_changes before now c = let edges = c.edges in record { grown = c.grown; fa
 -- ---- what it was updated to
 
 -- the table then
-abbrev pub table_then : Spot → ℕ → Seated → Accessed → Accesses
+abbrev pub table_then : Spot → ℕ → Seated → Accessed → AccessTable
 table_then old n s e = table_with old.state.table n s e
 
 abbrev pub state_then : Spot → ℕ → Seated → Accessed → State
@@ -119,12 +119,12 @@ pub seat_is : (old mid : Spot) (n : ℕ) (s : Seated) (change : List Slot → Ch
 seat_is old mid n s change r a = seat_there old.state.table mid.state.table n s a.there a.seat
 
 pub state_is : (old mid : Spot) (n : ℕ) (s : Seated) (change : List Slot → Change) (r : Result ⊤ DiskFault) → (a : Updated old mid n s change r) → mid.state ≡ state_then old n s a.seat.disk
-state_is old mid n s change r a = a.state ∙ ap (λ (t : Accesses). record old.state { table = t }) (table_is old mid n s change r a)
+state_is old mid n s change r a = a.state ∙ ap (λ (t : AccessTable). record old.state { table = t }) (table_is old mid n s change r a)
 
 pub usable_then : (old mid : Spot) (n : ℕ) (s : Seated) (change : List Slot → Change) (r : Result ⊤ DiskFault) → Updated old mid n s change r → IsUsable old → IsUsable mid
 usable_then old mid n s change r a usable =
     let grown = usable_grown old.world.told mid.world.told old.state.table a.seat.does.changes.units.grown usable in
-    subst (λ (t : Accesses). Usable mid.world.told t) (sym (table_is old mid n s change r a))
+    subst (λ (t : AccessTable). Usable mid.world.told t) (sym (table_is old mid n s change r a))
     (λ j is. usable_with j old.state.table n s a.seat.disk a.there a.seat.does.changes.same (grown j is))
 
 -- the machine is on the same units, with the same letters
@@ -162,7 +162,7 @@ device_is st s units vdev is = go (slice_get st.table.units s.letter.unit) (slic
     go (Some unit) there is = rw there (same_Some unit.vdev vdev is)
 
 -- its step was done
-pub ran_to : (old mid : Spot) (n : ℕ) (s : Seated) (change : Change) (units : List Slot) (t' : Accesses) (o : Outcome) → item_at old.state.table.seats n ≡ Some s → (k : MetAt old units s)
+pub ran_to : (old mid : Spot) (n : ℕ) (s : Seated) (change : Change) (units : List Slot) (t' : AccessTable) (o : Outcome) → item_at old.state.table.seats n ≡ Some s → (k : MetAt old units s)
     → Steps old.world.told mid.world.told k.journal units old.state.table t' s k.met change (stamp_of old.state.moment) o → Counted old.world.faults (faults_in (o ∷ [])) mid.world.faults
     → mid.state.console ≡ old.state.console
     → Ran (at old units) (at mid (changed_units units s.letter.unit k.met.minidisk change (stamp_of old.state.moment) o)) (changing_tree old.state n change units)
@@ -221,7 +221,7 @@ ran_refused old mid n s change why units a k told synced none =
     subst (λ (z : Act Changing). Ran (at old units) (at mid units) z (then_of old.state n s (change units) m units Good)) (sym (tree_is old.state n s (change units) units m a.there k.met.slot))
     (ran_still (at old units) (at mid units) (step_of old.state s (change units) m) Good (then_of old.state n s (change units) m units) told
     (counted_none old.world.faults mid.world.faults a.seat.does.changes.units.faults) synced tt k.met.slot refl none
-    (record { unread = ap (λ (c : ConsoleState). c.unread) console; ended = ap (λ (c : ConsoleState). c.ended) console }) refl)
+    (record { unread = ap (λ (c : Console). c.unread) console; ended = ap (λ (c : Console). c.ended) console }) refl)
 
 -- the machine that a refused step leaves
 same_units : (st : State) (n : ℕ) (s : Seated) (change : Change) (m : Minidisk) (units : List Slot) → new_slot (step_of st s change m) Good ≡ None
@@ -326,14 +326,14 @@ failed_at z vdev = Out (typed_line (message_text (M105 (device_text vdev)))) (Do
 abbrev pub state_doubted : State → ℕ → ℕ → ℕ → State
 state_doubted st n u vdev = record st { table = doubted n u st.table; places = without_device vdev st.places }
 
-pub doubted_so : (st : State) (n u vdev : ℕ) (t : Accesses) (places : Places) → t ≡ doubted n u st.table → places ≡ without_device vdev st.places
+pub doubted_so : (st : State) (n u vdev : ℕ) (t : AccessTable) (places : Places) → t ≡ doubted n u st.table → places ≡ without_device vdev st.places
     → record st { table = t; places = places } ≡ state_doubted st n u vdev
 doubted_so st n u vdev t places table forgotten =
-    ap (λ (x : Accesses). record st { table = x; places = places }) table
+    ap (λ (x : AccessTable). record st { table = x; places = places }) table
     ∙ ap (λ (x : Places). record st { table = doubted n u st.table; places = x }) forgotten
 
 -- a letter that is released then is released before
-doubted_is : (t : Accesses) (n : ℕ) (s : Seated) (e : Accessed) → doubted n s.letter.unit (table_with t n s e) ≡ doubted n s.letter.unit t
+doubted_is : (t : AccessTable) (n : ℕ) (s : Seated) (e : Accessed) → doubted n s.letter.unit (table_with t n s e) ≡ doubted n s.letter.unit t
 doubted_is t n s e = ap (λ (l : List (Option Seated)). record (doubted n s.letter.unit t) { seats = l }) (cleared_with t n s e)
 
 released_is : (st : State) (n : ℕ) (s : Seated) (vdev : ℕ) (units : List Slot) → item_at st.table.seats n ≡ Some s → vdev_of (machine_of st units) s.letter.unit ≡ vdev
@@ -356,7 +356,7 @@ change_doubted old mid mid' n s change vdev a device same doubt =
     state' : mid'.state ≡ state_doubted old.state n s.letter.unit vdev
     state' = doubt
         ∙ ap (λ (st : State). state_doubted st n s.letter.unit vdev) (state_is old mid n s change (Err failed.InDoubt) a)
-        ∙ ap (λ (t : Accesses). record (state_doubted old.state n s.letter.unit vdev) { table = t }) (doubted_is old.state.table n s a.seat.disk)
+        ∙ ap (λ (t : AccessTable). record (state_doubted old.state n s.letter.unit vdev) { table = t }) (doubted_is old.state.table n s a.seat.disk)
 
     now : Spot
     now = record { world = mid.world; state = mid'.state }
@@ -382,7 +382,7 @@ change_doubted old mid mid' n s change vdev a device same doubt =
       later = later_changes old.world mid.world a.seat.does.changes.units;
       usable = λ usable.
           let grown = usable_grown old.world.told mid.world.told old.state.table a.seat.does.changes.units.grown usable in
-          subst (λ (t : Accesses). Usable mid.world.told t) (sym (ap (λ (st : State). st.table) state'))
+          subst (λ (t : AccessTable). Usable mid.world.told t) (sym (ap (λ (st : State). st.table) state'))
           (λ j is. usable_doubted j old.state.table n s.letter.unit (grown j is));
     }
 

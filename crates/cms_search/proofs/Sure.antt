@@ -17,7 +17,7 @@ use Rattle.cms_model.specs.LawsSizes.{IsWhole}
 use Rattle.cms_model.specs.LawsUpdates.{after, now}
 use Rattle.cms_model.specs.declared.fault.OpenFault.{OpenFault}
 use Rattle.cms_model.specs.declared.fault.OpenFault.TheVariants as failed
-use Rattle.cms_model.proofs.Settling.{synced_leaves, synced_now}
+use Rattle.cms_model.proofs.SettledUnits.{synced_leaves, synced_now}
 use Rattle.cms_machine.specs.Slots.{Slot, Settled, Doubt, Before, After, IsAmong, named, set_of, state_in, unit_set, unit_state}
 use Rattle.cms_machine.specs.Steps.{Access, MayAccess, Outcome, Good, ReadFault, SyncFault, OldFault, EitherFault, access_syncs, faults_in, units_after}
 use Rattle.cms_machine.specs.Acts.{Act, Does}
@@ -30,7 +30,7 @@ use Rattle.cms_machine.proofs.Units.{get_same}
 use Rattle.cms_disk.specs.Disks.{IsRefused, disk_on, synced}
 use Rattle.cms_disk.specs.declared.unit.UnitInfo.{UnitInfo}
 use Rattle.cms_search.specs.Held.{HoldsUnit, IsDoubtSlot, IsSettledSlot, StandsAs, disk_of as disk_of_unit}
-use Rattle.cms_search.specs.Tables.{Accesses, Seated}
+use Rattle.cms_search.specs.Tables.{AccessTable, Seated}
 
 -- ---- the events
 
@@ -96,7 +96,7 @@ marked_as j u unit slot true seat is = is
 marked_as j u unit slot false None is = is.0
 marked_as j u unit slot false (Some s) is = settled_marked slot _ is.1
 
-pub sure : (j : Journal) (units : List Slot) (t : Accesses) (u : ℕ) (unit : UnitInfo) (h : HoldsUnit j units t u unit) (doubt : Bool) → IsMarked doubt h.slot → IsSure j (sync_of doubt u) u h.slot
+pub sure : (j : Journal) (units : List Slot) (t : AccessTable) (u : ℕ) (unit : UnitInfo) (h : HoldsUnit j units t u unit) (doubt : Bool) → IsMarked doubt h.slot → IsSure j (sync_of doubt u) u h.slot
 sure j units t u unit h false settled = record {
   image = refl;
   crash = λ x left. only_state h.slot x settled (h.crash x left);
@@ -113,7 +113,7 @@ some_and None P h = absurd h
 some_and (Some a) P h = (a, refl)
 
 -- the state that its contents have is that of its slot
-pub state_now : (j : Journal) (es : List Event) (units : List Slot) (t : Accesses) (u : ℕ) (unit : UnitInfo) (h : HoldsUnit j units t u unit) → IsSure j es u h.slot → (x : State)
+pub state_now : (j : Journal) (es : List Event) (units : List Slot) (t : AccessTable) (u : ℕ) (unit : UnitInfo) (h : HoldsUnit j units t u unit) → IsSure j es u h.slot → (x : State)
     → state_of (disk_on unit) (now (after j es) u) ≡ x → state_in h.slot ≡ x
 state_now j es units t u unit h s x is =
     let at = some_and (slice_get j.units u) (λ (a : Attached). (a.bsize ≡ unit.bsize) × (unit.unit.blocks ≤ length a.start)) h.blocks in
@@ -122,7 +122,7 @@ state_now j es units t u unit h s x is =
     s.has x has
 
 -- the line of the unit then, with this table
-pub sure_line : (j : Journal) (es : List Event) (units units' : List Slot) (t t' : Accesses) (u : ℕ) (unit : UnitInfo) (h : HoldsUnit j units t u unit) → IsSure j es u h.slot
+pub sure_line : (j : Journal) (es : List Event) (units units' : List Slot) (t t' : AccessTable) (u : ℕ) (unit : UnitInfo) (h : HoldsUnit j units t u unit) → IsSure j es u h.slot
     → slice_get units' u ≡ Some (Settled (state_in h.slot)) → slice_get t'.doubts u ≡ Some false
     → StandsAs (after j es) u unit (Settled (state_in h.slot)) false (disk_of_unit u t'.seats) → HoldsUnit (after j es) units' t' u unit
 sure_line j es units units' t t' u unit h s there mark stands = record {

@@ -13,7 +13,7 @@ use Rattle.cms_disk.specs.declared.unit.UnitInfo.{UnitInfo}
 use Rattle.cms_search.specs.Format.{vacated}
 use Rattle.cms_search.specs.Machine.{Letter}
 use Rattle.cms_search.specs.Searches.{item_at, has}
-use Rattle.cms_search.specs.Tables.{Accesses, Seated, HaveDistinctDevices, IsTable, IsSure, KeepsItsOwn, without, put_on, cleared, new_table, released, marked, seated, shelves_of, table_after, told_after, letter_for, parent_of, wanted_unit}
+use Rattle.cms_search.specs.Tables.{AccessTable, Seated, HaveDistinctDevices, IsTable, IsSure, KeepsItsOwn, without, put_on, cleared, new_table, released, marked, seated, shelves_of, table_after, told_after, letter_for, parent_of, wanted_unit}
 
 -- ---- lists with empty places
 
@@ -83,7 +83,7 @@ table_new units distinct = record {
   readings = λ n s is. absurd (none_replicated 26 n s is);
 }
 
-pub table_marked : (t : Accesses) (u : ℕ) → IsTable t → IsTable (marked u false t)
+pub table_marked : (t : AccessTable) (u : ℕ) → IsTable t → IsTable (marked u false t)
 table_marked t u is = record {
   distinct = is.distinct;
   doubts = length-set t.doubts u false ∙ is.doubts;
@@ -97,7 +97,7 @@ table_marked t u is = record {
 pub keeps_none : (s : Seated) → s.reading ≡ None → KeepsItsOwn s
 keeps_none s none = rw none tt
 
-pub table_seated : (t : Accesses) (n : ℕ) (s : Seated) → IsTable t → IsSure t.doubts s → s.reading ≡ None → IsTable (seated n s t)
+pub table_seated : (t : AccessTable) (n : ℕ) (s : Seated) → IsTable t → IsSure t.doubts s → s.reading ≡ None → IsTable (seated n s t)
 table_seated t n s is sure none = record {
   distinct = is.distinct;
   doubts = is.doubts;
@@ -133,10 +133,10 @@ table_seated t n s is sure none = record {
     once a b x y same (inr h) (inr k) = is.once a b x y (item_without _ t.seats a x h.1).0 (item_without _ t.seats b y k.1).0 same
 
 -- another letter has its disk still
-pub stays : (t : Accesses) (n a : ℕ) (x : Seated) → item_at (cleared n t.seats) a ≡ Some x → (a ≢ n) × (item_at t.seats a ≡ Some x)
+pub stays : (t : AccessTable) (n a : ℕ) (x : Seated) → item_at (cleared n t.seats) a ≡ Some x → (a ≢ n) × (item_at t.seats a ≡ Some x)
 stays t n a x is = ⊎_elim (λ h. absurd (cc (h.1))) (λ h. h) (item_put t.seats n None a x is)
 
-pub table_released : (t : Accesses) (n : ℕ) → IsTable t → IsTable (released n t)
+pub table_released : (t : AccessTable) (n : ℕ) → IsTable t → IsTable (released n t)
 table_released t n is = record {
   distinct = is.distinct;
   doubts = is.doubts;
@@ -146,7 +146,7 @@ table_released t n is = record {
   readings = λ a x is_x. is.readings a x (stays t n a x is_x).1;
 }
 
-pub table_doubted : (t : Accesses) (n : ℕ) (s : Seated) → IsTable t → item_at t.seats n ≡ Some s → IsTable (released n (marked s.letter.unit true t))
+pub table_doubted : (t : AccessTable) (n : ℕ) (s : Seated) → IsTable t → item_at t.seats n ≡ Some s → IsTable (released n (marked s.letter.unit true t))
 table_doubted t n s is at = record {
   distinct = is.distinct;
   doubts = length-set t.doubts s.letter.unit true ∙ is.doubts;
@@ -159,7 +159,7 @@ table_doubted t n s is at = record {
 }
 
 -- the unit of a seat is one of the table's
-pub unit_within : (t : Accesses) (n : ℕ) (s : Seated) → IsTable t → item_at t.seats n ≡ Some s → s.letter.unit < length t.doubts
+pub unit_within : (t : AccessTable) (n : ℕ) (s : Seated) → IsTable t → item_at t.seats n ≡ Some s → s.letter.unit < length t.doubts
 unit_within t n s is at = slice_get_within t.doubts s.letter.unit false (is.sure n s at)
 
 get_within : {A : Type 0} (xs : List A) (k : ℕ) → k < length xs → slice_get xs k ≡ None → ⊥
@@ -167,7 +167,7 @@ get_within [] k less none = absurd (omega (arith, less))
 get_within (x ∷ xs) zero less none = absurd (cc none)
 get_within (x ∷ xs) (suc k) less none = get_within xs k (omega (arith, less)) none
 
-pub has_unit : (t : Accesses) (n : ℕ) (s : Seated) → IsTable t → item_at t.seats n ≡ Some s → slice_get t.units s.letter.unit ≡ None → ⊥
+pub has_unit : (t : AccessTable) (n : ℕ) (s : Seated) → IsTable t → item_at t.seats n ≡ Some s → slice_get t.units s.letter.unit ≡ None → ⊥
 has_unit t n s is at none =
     let less = unit_within t n s is at in let same = is.doubts in get_within t.units s.letter.unit (omega (arith, less, same)) none
 
@@ -200,13 +200,13 @@ wanted_place vdev None missing u is = absurd (cc is)
 wanted_place vdev (Some v) (Some m) u is = absurd (cc is)
 wanted_place vdev (Some v) None u is = ap Some (sym (cc is))
 
-pub table_accessed : (t : Accesses) (u n : ℕ) (s : Seated) → IsTable t → u < length t.units → s.letter.unit ≡ u → s.reading ≡ None → IsTable (seated n s (marked u false t))
+pub table_accessed : (t : AccessTable) (u n : ℕ) (s : Seated) → IsTable t → u < length t.units → s.letter.unit ≡ u → s.reading ≡ None → IsTable (seated n s (marked u false t))
 table_accessed t u n s is less of_unit none =
     let same = is.doubts in
     table_seated (marked u false t) n s (table_marked t u is) (rw of_unit (get_same t.doubts u u false (omega (arith, less, same)) refl)) none
 
 -- there are as many shelves as letters
-pub shelves_long : (t : Accesses) → IsTable t → length (shelves_of t) ≡ 26
+pub shelves_long : (t : AccessTable) → IsTable t → length (shelves_of t) ≡ 26
 shelves_long t is = length-map t.seats _ ∙ is.letters
 
 -- ---- what was read of a unit
@@ -236,14 +236,14 @@ pub letter_so : (u n : ℕ) (ext : Option ℕ) (writable w : Bool) (parent : Opt
     → s ≡ record { letter = letter_for u writable n ext; disk = d; reading = None }
 letter_so u n ext writable w parent read_only d s is p r same = is ∙ (rw (p, r, same) refl)
 
-pub seated_so : (t : Accesses) (u n : ℕ) (s : Seated) (letter : Letter) (d : Accessed) (seats : List (Option Seated)) → s ≡ record { letter = letter; disk = d; reading = None }
+pub seated_so : (t : AccessTable) (u n : ℕ) (s : Seated) (letter : Letter) (d : Accessed) (seats : List (Option Seated)) → s ≡ record { letter = letter; disk = d; reading = None }
     → seats ≡ put_on (λ e. e.letter.unit) s n t.seats
-    → ◌≡◌ {A = Accesses} (record { units = t.units; doubts = slice_set t.doubts u false; seats = seats }) (table_after t u letter n (Ok d))
+    → ◌≡◌ {A = AccessTable} (record { units = t.units; doubts = slice_set t.doubts u false; seats = seats }) (table_after t u letter n (Ok d))
 seated_so t u n s letter d seats is put = rw (put, is) refl
 
 -- ---- a unit and a letter that are released
 
-pub table_vacated : (t : Accesses) (u n : ℕ) (doubt : Bool) → IsTable t → IsTable (vacated u n (marked u doubt t))
+pub table_vacated : (t : AccessTable) (u n : ℕ) (doubt : Bool) → IsTable t → IsTable (vacated u n (marked u doubt t))
 table_vacated t u n doubt is = record {
   distinct = is.distinct;
   doubts = length-set t.doubts u doubt ∙ is.doubts;

@@ -14,7 +14,7 @@ use Rattle.cms_machine.specs.Runs.{Ran}
 use Rattle.cms_machine.specs.Slots.{Slot}
 use Rattle.cms_machine.proofs.Join.{after, broke_in, ran_none}
 use Rattle.cms_machine.proofs.Single.{broke_before, broke_take, ran_take, ran_turn}
-use Rattle.cms_line.specs.ConsoleState.{ConsoleState}
+use Rattle.cms_line.specs.ConsoleState.{Console}
 use Rattle.cms_line.specs.Consoles.{Stayed, Took, item_of}
 use Rattle.cms_line.specs.declared.console.ConsoleLine.{ConsoleLine}
 use Rattle.cms_line.specs.declared.console.ConsoleLine.TheVariants as line
@@ -37,13 +37,13 @@ use Rattle.cms_search.proofs.Says.{aside}
 -- ---- how calls join
 
 -- a part of a call: its tree has come so far
-pub record Came {R : Type 0} (before now : Seen) (was is : ConsoleState) (t u : Act R) : Type 0 where
+pub record Came {R : Type 0} (before now : Seen) (was is : Console) (t u : Act R) : Type 0 where
   pub each : (n : ℕ) (units : List Slot) (os : List Object) → Ran (standing before.told was n units os) (standing now.told is n units os) t u
   pub idle : Idle before.told now.told
   pub faults : now.faults ≡ before.faults
   pub edges : before.edges ≤ now.edges
 
-pub came_none : {R : Type 0} (before : Seen) (was : ConsoleState) (t : Act R) → Came before before was was t t
+pub came_none : {R : Type 0} (before : Seen) (was : Console) (t : Act R) → Came before before was was t t
 came_none before was t = record {
   each = λ n units os. ran_none (standing before.told was n units os) t;
   idle = idle_same before.told before.told refl;
@@ -52,7 +52,7 @@ came_none before was t = record {
 }
 
 -- a further call did its part
-pub came_on : {A R T : Type 0} (before mid now : Seen) (was c is : ConsoleState) (t : Act R) (s : Act A) (f : A → Act R) (x : T) (d : T → A)
+pub came_on : {A R T : Type 0} (before mid now : Seen) (was c is : Console) (t : Act R) (s : Act A) (f : A → Act R) (x : T) (d : T → A)
     → Came before mid was c t (bind s f) → Talks mid now c is s (Ok x) d → Came before now was is t (f (d x))
 came_on before mid now was c is t s f x d a b = record {
   each = λ n units os. after (standing before.told was n units os) (standing mid.told c n units os) (standing now.told is n units os) t s f (d x) (a.each n units os) (b.each n units os);
@@ -62,7 +62,7 @@ came_on before mid now was c is t s f x d a b = record {
 }
 
 -- or was cut off in it
-pub came_off : {A R T U : Type 0} (before mid now : Seen) (was c is : ConsoleState) (t : Act R) (s : Act A) (f : A → Act R) (e : End) (d : T → A) (d' : U → R)
+pub came_off : {A R T U : Type 0} (before mid now : Seen) (was c is : Console) (t : Act R) (s : Act A) (f : A → Act R) (e : End) (d : T → A) (d' : U → R)
     → Came before mid was c t (bind s f) → Talks {T = T} mid now c is s (Err e) d → Talks before now was is t (Err e) d'
 came_off before mid now was c is t s f e d d' a b = record {
   each = λ n units os. broke_in (standing before.told was n units os) (standing mid.told c n units os) (standing now.told is n units os) t s f (a.each n units os) (b.each n units os);
@@ -73,11 +73,11 @@ came_off before mid now was c is t s f e d d' a b = record {
 }
 
 -- the tree is done
-pub came_to : {R T : Type 0} (before now : Seen) (was is : ConsoleState) (t : Act R) (x : T) (d : T → R) → Came before now was is t (Done (d x)) → Talks before now was is t (Ok x) d
+pub came_to : {R T : Type 0} (before now : Seen) (was is : Console) (t : Act R) (x : T) (d : T → R) → Came before now was is t (Done (d x)) → Talks before now was is t (Ok x) d
 came_to before now was is t x d a = record { each = λ n units os. a.each n units os; idle = a.idle; faults = a.faults; edges = a.edges; cause = tt }
 
 -- a call that leaves the console alone
-pub of_does : {R T : Type 0} (before now : Seen) (c : ConsoleState) (t : Act R) (r : Result T End) (d : T → R) → Does before now t r d → Talks before now c c t r d
+pub of_does : {R T : Type 0} (before now : Seen) (c : Console) (t : Act R) (r : Result T End) (d : T → R) → Does before now t r d → Talks before now c c t r d
 of_does before now c t r d a = record {
   each = λ n units os. a.each (standing before.told c n units os) refl;
   idle = a.idle;
@@ -91,7 +91,7 @@ of_does before now c t r d a = record {
 read_no_disk : (es : List Event) → OnlyRead es → NoDisk es
 read_no_disk es only = aside IsRead (λ u k v is. is) (λ u is. is) es only
 
-pub took : (before now : Seen) (was is : ConsoleState) (l : ConsoleLine) → Took before.told now.told was is l → now.faults ≡ before.faults → before.edges ≤ now.edges
+pub took : (before now : Seen) (was is : Console) (l : ConsoleLine) → Took before.told now.told was is l → now.faults ≡ before.faults → before.edges ≤ now.edges
     → Talks before now was is taking (Ok l) item_of
 took before now was is l t faults edges = record {
   each = λ n units os.
@@ -102,7 +102,7 @@ took before now was is l t faults edges = record {
   cause = tt;
 }
 
-pub stayed : (before now : Seen) (was is : ConsoleState) (e : End) → Stayed before.told now.told was is → now.faults ≡ before.faults → before.edges ≤ now.edges
+pub stayed : (before now : Seen) (was is : Console) (e : End) → Stayed before.told now.told was is → now.faults ≡ before.faults → before.edges ≤ now.edges
     → (e ≡ Edge → Rose before.edges now.edges) → Talks {T = ConsoleLine} before now was is taking (Err e) item_of
 stayed before now was is e st faults edges cause = record {
   each = λ n units os.
@@ -138,16 +138,16 @@ clock_failed before now e told faults edges rose = record {
 
 -- ---- a line is dropped
 
-abbrev talks_drop : Seen → Seen → ConsoleState → Option Message → Result (Unit {0}) End → Type 0
+abbrev talks_drop : Seen → Seen → Console → Option Message → Result (Unit {0}) End → Type 0
 talks_drop before now c complaint r = Talks {T = Unit {0}} before now c c (dropping complaint) r said
 
-pub drop_stops : (before now : Seen) (c : ConsoleState) (complaint : Option Message) (e : End) → Does {T = ℤ} before now turning (Err e) itself
+pub drop_stops : (before now : Seen) (c : Console) (complaint : Option Message) (e : End) → Does {T = ℤ} before now turning (Err e) itself
     → talks_drop before now c complaint (Err e)
 drop_stops before now c complaint e d =
     came_off before before now c c c (dropping complaint) turning (λ seconds. complaining complaint (Done tt)) e itself said
     (came_none before c (dropping complaint)) (of_does before now c turning (Err e) itself d)
 
-spent : (before now : Seen) (c : ConsoleState) (complaint : Option Message) (seconds : ℤ) → Does before now turning (Ok seconds) itself
+spent : (before now : Seen) (c : Console) (complaint : Option Message) (seconds : ℤ) → Does before now turning (Ok seconds) itself
     → Came before now c c (dropping complaint) (complaining complaint (Done tt))
 spent before now c complaint seconds d =
     came_on before before now c c c (dropping complaint) turning (λ m. complaining complaint (Done tt)) seconds itself
@@ -157,7 +157,7 @@ bind_none : (complaint : Option Message) → complaining complaint (Done tt) ≡
 bind_none None = refl
 bind_none (Some message) = refl
 
-so_far : (before now : Seen) (c : ConsoleState) (complaint : Option Message) (seconds : ℤ) → Does before now turning (Ok seconds) itself
+so_far : (before now : Seen) (c : Console) (complaint : Option Message) (seconds : ℤ) → Does before now turning (Ok seconds) itself
     → Came before now c c (dropping complaint) (bind (complaining complaint (Done tt)) (λ (y : Unit {0}). Done y))
 so_far before now c complaint seconds d =
     subst (λ (t : Act (Unit {0})). Came before now c c (dropping complaint) t) (bind_none complaint) (spent before now c complaint seconds d)
@@ -175,7 +175,7 @@ silent before x = record {
   cause = tt;
 }
 
-pub drop_goes : (before mid now : Seen) (c : ConsoleState) (complaint : Option Message) (seconds : ℤ) (r : Result (Unit {0}) End)
+pub drop_goes : (before mid now : Seen) (c : Console) (complaint : Option Message) (seconds : ℤ) (r : Result (Unit {0}) End)
     → Does before mid turning (Ok seconds) itself → Does mid now (complaining complaint (Done tt)) r said → talks_drop before now c complaint r
 drop_goes before mid now c complaint seconds (Ok x) d t =
     came_to before now c c (dropping complaint) x said
@@ -191,31 +191,31 @@ abbrev pub ask_tree : Machine → ℕ → Act asks.Asked
 ask_tree s left = ask (with_lines s [] left)
 
 -- the console's next line is due, and so many turns are left
-abbrev pub IsDue : Seen → Seen → ConsoleState → ConsoleState → ℕ → ℕ → Type 0
+abbrev pub IsDue : Seen → Seen → Console → Console → ℕ → ℕ → Type 0
 IsDue before now was is all left = (s : Machine) → Came before now was is (ask_tree s all) (ask_tree s left)
 
-abbrev AskDone : Seen → Seen → ConsoleState → ConsoleState → ℕ → ℕ → Result Asked End → Type 0
+abbrev AskDone : Seen → Seen → Console → Console → ℕ → ℕ → Result Asked End → Type 0
 AskDone before now was is all left r = (s : Machine) → Talks before now was is (ask_tree s all) r (asked_in (with_lines s [] left))
 
 takes_next : (s : Machine) (left : ℕ) → ask_tree s left ≡ bind taking (on_item (with_lines s [] left) (asking left))
 unfolding asking
 takes_next s left = refl
 
-due_item : (before mid now : Seen) (was c is : ConsoleState) (all left : ℕ) (l : ConsoleLine) (s : Machine) → Came before mid was c (ask_tree s all) (ask_tree s left)
+due_item : (before mid now : Seen) (was c is : Console) (all left : ℕ) (l : ConsoleLine) (s : Machine) → Came before mid was c (ask_tree s all) (ask_tree s left)
     → Talks mid now c is taking (Ok l) item_of → Came before now was is (ask_tree s all) (on_item (with_lines s [] left) (asking left) (item_of l))
 due_item before mid now was c is all left l s due took =
     came_on before mid now was c is (ask_tree s all) taking (on_item (with_lines s [] left) (asking left)) l item_of
     (subst (λ (t : Act asks.Asked). Came before mid was c (ask_tree s all) t) (takes_next s left) due) took
 
 -- no line could be taken
-pub ask_stops : (before mid now : Seen) (was c is : ConsoleState) (all left : ℕ) (e : End) → IsDue before mid was c all left
+pub ask_stops : (before mid now : Seen) (was c is : Console) (all left : ℕ) (e : End) → IsDue before mid was c all left
     → Talks {T = ConsoleLine} mid now c is taking (Err e) item_of → AskDone before now was is all left (Err e)
 ask_stops before mid now was c is all left e due stayed s =
     came_off before mid now was c is (ask_tree s all) taking (on_item (with_lines s [] left) (asking left)) e item_of (asked_in (with_lines s [] left))
     (subst (λ (t : Act asks.Asked). Came before mid was c (ask_tree s all) t) (takes_next s left) (due s)) stayed
 
 -- a line is given, which is empty at the script's end
-pub ask_gives : (before mid now : Seen) (was c is : ConsoleState) (all left : ℕ) (l : ConsoleLine) (text : List ℕ) → IsDue before mid was c all left
+pub ask_gives : (before mid now : Seen) (was c is : Console) (all left : ℕ) (l : ConsoleLine) (text : List ℕ) → IsDue before mid was c all left
     → Talks mid now c is taking (Ok l) item_of → (item_of l ≡ Some (Text text)) ⊎ ((item_of l ≡ None) × (text ≡ [])) → AskDone before now was is all left (Ok (Given text))
 ask_gives before mid now was c is all left l text due took is_line s =
     came_to before now was is (ask_tree s all) (Given text) (asked_in (with_lines s [] left)) (⊎_elim
@@ -233,14 +233,14 @@ no_turn s no.Bad left none = rw none refl
 no_turn s no.Long left none = rw none refl
 no_turn s no.Rest left none = rw none refl
 
-due_no_line : (before mid now : Seen) (was c is : ConsoleState) (all left : ℕ) (l : ConsoleLine) (no_line : NoLine) (s : Machine)
+due_no_line : (before mid now : Seen) (was c is : Console) (all left : ℕ) (l : ConsoleLine) (no_line : NoLine) (s : Machine)
     → Came before mid was c (ask_tree s all) (ask_tree s left) → Talks mid now c is taking (Ok l) item_of → item_of l ≡ Some (item_in no_line)
     → Came before now was is (ask_tree s all) (on_item (with_lines s [] left) (asking left) (Some (item_in no_line)))
 due_no_line before mid now was c is all left l no_line s due took e =
     subst (λ (i : Option Item). Came before now was is (ask_tree s all) (on_item (with_lines s [] left) (asking left) i)) e
     (due_item before mid now was c is all left l s due took)
 
-pub ask_spent : (before mid now : Seen) (was c is : ConsoleState) (all left : ℕ) (l : ConsoleLine) (no_line : NoLine) → IsDue before mid was c all left
+pub ask_spent : (before mid now : Seen) (was c is : Console) (all left : ℕ) (l : ConsoleLine) (no_line : NoLine) → IsDue before mid was c all left
     → Talks mid now c is taking (Ok l) item_of → item_of l ≡ Some (item_in no_line) → left ≡ 0 → AskDone before now was is all left (Ok Spent)
 ask_spent before mid now was c is all left l no_line due took e none s =
     came_to before now was is (ask_tree s all) Spent (asked_in (with_lines s [] left))
@@ -260,23 +260,23 @@ a_turn s no_line left less some =
     go no.Long = refl
     go no.Rest = refl
 
-due_drop : (before mid now : Seen) (was c is : ConsoleState) (all left less : ℕ) (l : ConsoleLine) (no_line : NoLine) (s : Machine)
+due_drop : (before mid now : Seen) (was c is : Console) (all left less : ℕ) (l : ConsoleLine) (no_line : NoLine) (s : Machine)
     → Came before mid was c (ask_tree s all) (ask_tree s left) → Talks mid now c is taking (Ok l) item_of → item_of l ≡ Some (item_in no_line) → left ≡ suc less
     → Came before now was is (ask_tree s all) (next_due s no_line less)
 due_drop before mid now was c is all left less l no_line s due took e some =
     subst (λ (t : Act asks.Asked). Came before now was is (ask_tree s all) t) (a_turn s no_line left less some)
     (due_no_line before mid now was c is all left l no_line s due took e)
 
-pub ask_goes_on : (before mid half now : Seen) (was c is : ConsoleState) (all left less : ℕ) (l : ConsoleLine) (no_line : NoLine) (x : Unit {0})
+pub ask_goes_on : (before mid half now : Seen) (was c is : Console) (all left less : ℕ) (l : ConsoleLine) (no_line : NoLine) (x : Unit {0})
     → IsDue before mid was c all left → Talks mid half c is taking (Ok l) item_of → item_of l ≡ Some (item_in no_line) → left ≡ suc less
-    → ((k : ConsoleState) → talks_drop half now k (complaint (item_in no_line)) (Ok x)) → IsDue before now was is all less
+    → ((k : Console) → talks_drop half now k (complaint (item_in no_line)) (Ok x)) → IsDue before now was is all less
 ask_goes_on before mid half now was c is all left less l no_line x due took e some dropped s =
     came_on before half now was is is (ask_tree s all) (dropping (complaint (item_in no_line))) (λ y. ask_tree s less) x said
     (due_drop before mid half was c is all left less l no_line s (due s) took e some) (dropped is)
 
-pub ask_breaks : (before mid half now : Seen) (was c is : ConsoleState) (all left less : ℕ) (l : ConsoleLine) (no_line : NoLine) (e : End)
+pub ask_breaks : (before mid half now : Seen) (was c is : Console) (all left less : ℕ) (l : ConsoleLine) (no_line : NoLine) (e : End)
     → IsDue before mid was c all left → Talks mid half c is taking (Ok l) item_of → item_of l ≡ Some (item_in no_line) → left ≡ suc less
-    → ((k : ConsoleState) → talks_drop half now k (complaint (item_in no_line)) (Err e)) → AskDone before now was is all less (Err e)
+    → ((k : Console) → talks_drop half now k (complaint (item_in no_line)) (Err e)) → AskDone before now was is all less (Err e)
 ask_breaks before mid half now was c is all left less l no_line e due took is_no_line some dropped s =
     came_off before half now was is is (ask_tree s all) (dropping (complaint (item_in no_line))) (λ y. ask_tree s less) e said (asked_in (with_lines s [] less))
     (due_drop before mid half was c is all left less l no_line s (due s) took is_no_line some) (dropped is)
@@ -286,7 +286,7 @@ stacked_line : (s : Machine) (line : List ℕ) (more : List (List ℕ)) (left : 
 unfolding asking
 stacked_line s line more left = refl
 
-pub ask_stacked : (before : Seen) (c : ConsoleState) (stack more : List (List ℕ)) (line : List ℕ) (left : ℕ) → stack ≡ line ∷ more
+pub ask_stacked : (before : Seen) (c : Console) (stack more : List (List ℕ)) (line : List ℕ) (left : ℕ) → stack ≡ line ∷ more
     → (s : Machine) → Talks before before c c (ask (with_lines s stack left)) (Ok (Given line)) (asked_in (with_lines s more left))
 ask_stacked before c stack more line left is s =
     came_to before before c c (ask (with_lines s stack left)) (Given line) (asked_in (with_lines s more left))
@@ -295,7 +295,7 @@ ask_stacked before c stack more line left is s =
     (came_none before c (ask (with_lines s stack left))))
 
 -- no line was stacked
-pub ask_unstacked : (before now : Seen) (was is : ConsoleState) (all left : ℕ) (r : Result Asked End) (stack stack' : List (List ℕ)) → stack ≡ [] → stack' ≡ []
+pub ask_unstacked : (before now : Seen) (was is : Console) (all left : ℕ) (r : Result Asked End) (stack stack' : List (List ℕ)) → stack ≡ [] → stack' ≡ []
     → AskDone before now was is all left r → (s : Machine) → Talks before now was is (ask (with_lines s stack all)) r (asked_in (with_lines s stack' left))
 ask_unstacked before now was is all left r stack stack' none none' done s =
     subst (λ (lines : List (List ℕ)). Talks before now was is (ask (with_lines s lines all)) r (asked_in (with_lines s stack' left))) (sym none)

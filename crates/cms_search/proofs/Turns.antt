@@ -5,7 +5,7 @@ use Rattle.cms_fields.specs.Moments.{moment_of}
 use Rattle.cms_machine.specs.Objects.{Object}
 use Rattle.cms_machine.specs.Slots.{Slot}
 use Rattle.cms_machine.specs.Acts.{Act, Done, bind, turning}
-use Rattle.cms_line.specs.ConsoleState.{ConsoleState}
+use Rattle.cms_line.specs.ConsoleState.{Console}
 use Rattle.cms_search.specs.Calls.{SpotWith, Meaning, Does, Acts, itself, machine_of}
 use Rattle.cms_search.specs.Machine.{turned}
 use Rattle.cms_search.specs.Talks.{Talks}
@@ -36,7 +36,7 @@ cut_talks {T = T} {U = U} old new s f e d m table talks = acts_talks {T = U} old
 pub talks_kept : {A T : Type 0} {os : List Object} (old new : SpotWith os) (s : Act A) (r : Result T End) (d : T → A) → new.state.console ≡ old.state.console → Does old.world new.world s r d
     → Talks old.world new.world old.state.console new.state.console s r d
 talks_kept {T = T} old new s r d console does =
-    subst (λ (c : ConsoleState). Talks {T = T} old.world new.world old.state.console c s r d) (sym console) (of_does old.world new.world old.state.console s r d does)
+    subst (λ (c : Console). Talks {T = T} old.world new.world old.state.console c s r d) (sym console) (of_does old.world new.world old.state.console s r d does)
 
 -- ---- a turn
 

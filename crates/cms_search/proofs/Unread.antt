@@ -14,7 +14,7 @@ use Rattle.cms_search.specs.Calls.{Comes, IsSeatOf, IsUsableTable, Spot, at, mac
 use Rattle.cms_search.specs.Held.{HoldsTable, StandsAs, disk_of}
 use Rattle.cms_search.specs.Machine.{Letter, Machine}
 use Rattle.cms_search.specs.Searches.{item_at}
-use Rattle.cms_search.specs.Tables.{Accesses, IsTable, KeepsItsOwn, Seated, letters_in, unread_seat, without_readings}
+use Rattle.cms_search.specs.Tables.{AccessTable, IsTable, KeepsItsOwn, Seated, letters_in, unread_seat, without_readings}
 use Rattle.cms_search.specs.declared.state.State.{State}
 use Rattle.cms_search.proofs.Acts.{later_none}
 use Rattle.cms_search.proofs.IdleEvents.{holds_some}
@@ -59,14 +59,14 @@ dropped_some xs n x s has less is some same =
 -- ---- the table
 
 -- what stands in a place was there, and kept a reading or none
-was : (t : Accesses) (n : ℕ) (x : Seated) → item_at (without_readings t).seats n ≡ Some x → (s : Seated) × (item_at t.seats n ≡ Some s) × (unread_seat s ≡ x)
+was : (t : AccessTable) (n : ℕ) (x : Seated) → item_at (without_readings t).seats n ≡ Some x → (s : Seated) × (item_at t.seats n ≡ Some s) × (unread_seat s ≡ x)
 was t n x is = cases (item_at t.seats n) refl (sym (item_at_map unread_seat t.seats n) ∙ is)
   where
     cases : (y : Option Seated) → item_at t.seats n ≡ y → option_map unread_seat y ≡ Some x → (s : Seated) × (item_at t.seats n ≡ Some s) × (unread_seat s ≡ x)
     cases None at none = absurd (cc none)
     cases (Some s) at some = (s, at, same_Some (unread_seat s) x some)
 
-pub table_unread : (t : Accesses) → IsTable t → IsTable (without_readings t)
+pub table_unread : (t : AccessTable) → IsTable t → IsTable (without_readings t)
 table_unread t is = record {
   distinct = is.distinct;
   doubts = is.doubts;
@@ -104,7 +104,7 @@ stands_unread j u unit slot true seat is = is
 stands_unread j u unit slot false None is = is
 stands_unread j u unit slot false (Some s) is = (is.0, is.1, is.2, is.3, tt)
 
-holds_unread : (j : Journal) (units : List Slot) (t : Accesses) → HoldsTable j units t → HoldsTable j units (without_readings t)
+holds_unread : (j : Journal) (units : List Slot) (t : AccessTable) → HoldsTable j units t → HoldsTable j units (without_readings t)
 holds_unread j units t h = record {
   table = table_unread t h.table;
   same = h.same;
@@ -115,7 +115,7 @@ holds_unread j units t h = record {
       (subst (λ (d : Option Seated). StandsAs j u unit l.slot l.doubt d) (sym (disk_unread u t.seats)) (stands_unread j u unit l.slot l.doubt (disk_of u t.seats) l.stands));
 }
 
-usable_unread : (j : Journal) (t : Accesses) → IsUsableTable j t → IsUsableTable j (without_readings t)
+usable_unread : (j : Journal) (t : AccessTable) → IsUsableTable j t → IsUsableTable j (without_readings t)
 usable_unread j t u = record {
   units = u.units;
   seats = λ a x unit is has.

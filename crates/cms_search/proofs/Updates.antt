@@ -16,13 +16,13 @@ use Rattle.cms_machine.specs.Acts.{Act}
 use Rattle.cms_machine.specs.Runs.{Ran}
 use Rattle.cms_machine.specs.Slots.{Settled, Slot}
 use Rattle.cms_machine.specs.Steps.{OldFault, Outcome, ReadFault, after_put, faults_in}
-use Rattle.cms_disk.specs.Changing.{Appends, Changes, Kept, Unread}
+use Rattle.cms_disk.specs.Changes.{Appends, Changes, Kept, Unread}
 use Rattle.cms_disk.specs.Disks.{Accessed}
 use Rattle.cms_disk.specs.declared.fault.DiskFault.{DiskFault}
 use Rattle.cms_disk.specs.declared.fault.DiskFault.TheVariants as failed
 use Rattle.cms_disk.specs.declared.unit.UnitInfo.{UnitInfo}
-use Rattle.cms_disk.proofs.Adding.{appends_of}
-use Rattle.cms_disk.proofs.Standing.{minidisk_same}
+use Rattle.cms_disk.proofs.Added.{appends_of}
+use Rattle.cms_disk.proofs.DisksTold.{minidisk_same}
 use Rattle.cms_world.specs.Seen.{Seen}
 use Rattle.cms_search.specs.Calls.{Comes, Spot, Usable, at, holds, machine_of}
 use Rattle.cms_search.specs.DeviceSteps.{Changing, changing_by, changing_tree}
@@ -30,7 +30,7 @@ use Rattle.cms_search.specs.FileWrites.{FitsUpdate, MayUpdate, Updated, UpdatesS
 use Rattle.cms_search.specs.Machine.{Machine}
 use Rattle.cms_search.specs.Searches.{item_at}
 use Rattle.cms_search.specs.Seats.{ChangesSeat, HasDevice}
-use Rattle.cms_search.specs.Tables.{Accesses, Seated, seat_with}
+use Rattle.cms_search.specs.Tables.{AccessTable, Seated, seat_with}
 use Rattle.cms_search.specs.Units.{vdev_of}
 use Rattle.cms_search.specs.declared.file_write.FileWrite.{FileWrite}
 use Rattle.cms_search.proofs.Changes.{Steps, changed_slot, changed_units, steps_kept, steps_with}
@@ -40,7 +40,7 @@ use Rattle.cms_search.proofs.Stepped.{console_is, device_is, failed_at, failed_t
 
 -- ---- what may be called
 
-pub may_update : (told : Told) (t : Accesses) (n : ℕ) (s : Seated) (unit : UnitInfo) (name : Name) (u : FileWrite) → item_at t.seats n ≡ Some s
+pub may_update : (told : Told) (t : AccessTable) (n : ℕ) (s : Seated) (unit : UnitInfo) (name : Name) (u : FileWrite) → item_at t.seats n ≡ Some s
     → slice_get t.units s.letter.unit ≡ Some unit → FitsUpdate s.disk.volume name u → Usable told t → MayUpdate told s.disk name u
 may_update told t n s unit name u at has fits usable = record {
   fits = fits;
@@ -72,7 +72,7 @@ updated_so old mid n s change stamp r there when does state =
     }
 
 -- what came of a change that is made at once
-pub changed_so : (before now : Seen) (t t' : Accesses) (n : ℕ) (s : Seated) (change : Change) (stamp : Stamp) (r : Result ⊤ DiskFault) → ChangesSeat before now t t' n s change stamp r
+pub changed_so : (before now : Seen) (t t' : AccessTable) (n : ℕ) (s : Seated) (change : Change) (stamp : Stamp) (r : Result ⊤ DiskFault) → ChangesSeat before now t t' n s change stamp r
     → UpdatesSeat before now t t' n s change stamp r
 changed_so before now t t' n s change stamp r c = record {
   disk = c.disk;
@@ -105,7 +105,7 @@ device_still old mid n s change r vdev u h =
     let table : mid.state.table ≡ table_with t n s e = u.seat.table ∙ with_disk_is t n s e u.there in
     let there : item_at (table_with t n s e).seats n ≡ Some (seat_with s e) = item_here t.seats n (Some (seat_with s e)) (item_within t.seats n s u.there) in
     let device = if_some (item_at t.seats n) (λ (x : Seated). option_map (λ (unit : UnitInfo). unit.vdev) (slice_get t.units x.letter.unit) ≡ Some vdev) s u.there h in
-    subst (λ (x : Accesses). HasDevice x n vdev) (sym table) (rw there device)
+    subst (λ (x : AccessTable). HasDevice x n vdev) (sym table) (rw there device)
 
 -- as which it was accessed before
 pub device_was : (old mid : Spot) (n : ℕ) (s : Seated) (change : List Slot → Change) (r : Result ⊤ DiskFault) (vdev : ℕ) → Updated old mid n s change r → HasDevice mid.state.table n vdev
@@ -116,7 +116,7 @@ device_was old mid n s change r vdev u h =
     let table : mid.state.table ≡ table_with t n s e = u.seat.table ∙ with_disk_is t n s e u.there in
     let there : item_at (table_with t n s e).seats n ≡ Some (seat_with s e) = item_here t.seats n (Some (seat_with s e)) (item_within t.seats n s u.there) in
     if_some (item_at (table_with t n s e).seats n) (λ (x : Seated). option_map (λ (unit : UnitInfo). unit.vdev) (slice_get t.units x.letter.unit) ≡ Some vdev) (seat_with s e) there
-    (subst (λ (x : Accesses). HasDevice x n vdev) table h)
+    (subst (λ (x : AccessTable). HasDevice x n vdev) table h)
 
 -- ---- the device failed before the label was written
 

@@ -13,7 +13,7 @@ use Rattle.cms_machine.specs.Points.{Point}
 use Rattle.cms_machine.specs.Runs.{Ran, Broke}
 use Rattle.cms_world.specs.declared.world.World.{Ghosts}
 use Rattle.cms_world.specs.Seen.{Seen, seen}
-use Rattle.cms_words.specs.declared.reading.Words.{Words}
+use Rattle.cms_words.specs.declared.words.Words.{Words}
 use Rattle.cms_line.specs.ConsoleState.{fresh}
 use Rattle.cms_line.specs.declared.message.Message.{Message}
 use Rattle.cms_line.specs.Messages.{message_text}
@@ -23,7 +23,7 @@ use Rattle.cms_search.specs.Machine.{Machine, Course, Went, OutOfTurns}
 use Rattle.cms_search.specs.Held.{HoldsTable}
 use Rattle.cms_search.specs.Searches.{item_at}
 use Rattle.cms_search.specs.Shows.{devices_of}
-use Rattle.cms_search.specs.Tables.{Accesses, Seated, letters_of, new_table}
+use Rattle.cms_search.specs.Tables.{AccessTable, Seated, letters_of, new_table}
 use Rattle.cms_search.specs.declared.state as declared
 use Rattle.cms_search.specs.declared.state.Course.TheVariants as course
 use Rattle.cms_search.specs.declared.state.End.{End}
@@ -61,7 +61,7 @@ first_state words units = record {
 -- ---- what is held of the units
 
 -- nothing is held by a journal that isn't told
-abbrev pub Holds : Told → Accesses → List Slot → Type 0
+abbrev pub Holds : Told → AccessTable → List Slot → Type 0
 Holds None t units = ⊥
 Holds (Some j) t units = HoldsTable j units t
 
@@ -78,13 +78,13 @@ pub record IsSeatOf (unit : UnitInfo) (s : Seated) : Type 0 where
   pub marked : unit.writable ≡ false → s.letter.read_only ≡ true
 
 -- all units of a table may be used, and each accessed disk is on its unit
-pub record IsUsableTable (j : Journal) (t : Accesses) : Type 0 where
+pub record IsUsableTable (j : Journal) (t : AccessTable) : Type 0 where
   pub units : (u : ℕ) (unit : UnitInfo) → slice_get t.units u ≡ Some unit → IsUsableUnit j unit
   pub seats : (n : ℕ) (s : Seated) (unit : UnitInfo) → item_at t.seats n ≡ Some s
       → slice_get t.units s.letter.unit ≡ Some unit → IsSeatOf unit s
 
 -- the same at a journal that may not be told
-abbrev pub Usable : Told → Accesses → Type 0
+abbrev pub Usable : Told → AccessTable → Type 0
 Usable told t = ForSome told (λ j. IsUsableTable j t)
 
 -- ---- what a world shows

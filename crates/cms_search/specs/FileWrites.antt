@@ -10,17 +10,17 @@ use Rattle.cms_model.specs.Changes.{Change, Put, Add}
 use Rattle.cms_model.specs.Minidisks.{Minidisk}
 use Rattle.cms_model.specs.declared.file.FileData.{FileData}
 use Rattle.cms_machine.specs.Slots.{Slot}
-use Rattle.cms_held.specs.Opening.{HeldVolume}
+use Rattle.cms_held.specs.HeldVolumes.{HeldVolume}
 use Rattle.cms_world.specs.Seen.{Seen}
 use Rattle.cms_disk.specs.Additions.{FitsFile}
-use Rattle.cms_disk.specs.Changing.{Appends, ChangesDisk}
+use Rattle.cms_disk.specs.Changes.{Appends, ChangesDisk}
 use Rattle.cms_disk.specs.Disks.{Accessed, IsMinidisk, IsReadable, place_of}
 use Rattle.cms_disk.specs.Drafts.{file_with, shape_of}
 use Rattle.cms_disk.specs.declared.fault.DiskFault.{DiskFault}
 use Rattle.cms_search.specs.Calls.{Spot, holds}
 use Rattle.cms_search.specs.Searches.{item_at}
 use Rattle.cms_search.specs.Seats.{HasDisk}
-use Rattle.cms_search.specs.Tables.{Accesses, Seated}
+use Rattle.cms_search.specs.Tables.{AccessTable, Seated}
 use Rattle.cms_search.specs.declared.file_write.FileWrite.{FileWrite}
 use Rattle.cms_search.specs.declared.file_write.FileWrite.TheVariants as update
 
@@ -52,7 +52,7 @@ pub record UpdatesTo (before now : Seen) (d e : Accessed) (change : Change) (sta
   pub changes : ChangesDisk before now d e result
 
 -- the disk of letter n, which is that of s, was updated so
-abbrev pub UpdatesSeat : Seen → Seen → Accesses → Accesses → ℕ → Seated → Change → Stamp → Result ⊤ DiskFault → Type 0
+abbrev pub UpdatesSeat : Seen → Seen → AccessTable → AccessTable → ℕ → Seated → Change → Stamp → Result ⊤ DiskFault → Type 0
 UpdatesSeat before now t t' n s change stamp result = HasDisk t t' n (λ e. UpdatesTo before now s.disk e change stamp result)
 
 -- ---- as a command's step

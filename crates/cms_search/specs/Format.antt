@@ -6,13 +6,13 @@ use Rattle.cms_journal.specs.Told.{Told}
 use Rattle.cms_fields.specs.declared.time.Stamp.{Stamp}
 use Rattle.cms_model.specs.Minidisks.{State}
 use Rattle.cms_world.specs.Seen.{ChangesUnits, Seen}
-use Rattle.cms_disk.specs.Changing.{IsDevices}
+use Rattle.cms_disk.specs.Changes.{IsDevices}
 use Rattle.cms_disk.specs.Disks.{Accessed, IsOn}
-use Rattle.cms_disk.specs.Making.{Formats, GrownOf, IsEmptyOn, IsMakeFault, IsReady}
+use Rattle.cms_disk.specs.EmptyMinidisks.{Formats, GrownOf, IsEmptyOn, IsMakeFault, IsReady}
 use Rattle.cms_disk.specs.declared.fault.DiskFault.{DiskFault}
 use Rattle.cms_disk.specs.declared.fault.DiskFault.TheVariants as failed
 use Rattle.cms_disk.specs.declared.unit.UnitInfo.{UnitInfo}
-use Rattle.cms_search.specs.Tables.{Accesses, cleared, letter_for, marked, table_after, without}
+use Rattle.cms_search.specs.Tables.{AccessTable, cleared, letter_for, marked, table_after, without}
 
 -- the unit is large enough, and its blocks may be read and written
 pub record MayFormat (told : Told) (unit : UnitInfo) : Type 0 where
@@ -21,12 +21,12 @@ pub record MayFormat (told : Told) (unit : UnitInfo) : Type 0 where
   pub writable : ForSome told (λ j. IsWritable j.units unit.unit.number)
 
 -- unit u stands on no letter any more, and letter n has no disk
-abbrev pub vacated : ℕ → ℕ → Accesses → Accesses
+abbrev pub vacated : ℕ → ℕ → AccessTable → AccessTable
 vacated u n t = record t { seats = without (λ e. e.letter.unit == u) (cleared n t.seats) }
 
 -- the table behind the making on unit u: both are released, and the new disk is seated on letter n; where the device failed then it isn't,
 -- and the unit may be in doubt; without memory nothing was done
-abbrev pub table_made : Accesses → ℕ → UnitInfo → ℕ → Result Accessed DiskFault → Accesses
+abbrev pub table_made : AccessTable → ℕ → UnitInfo → ℕ → Result Accessed DiskFault → AccessTable
 table_made t u unit n (Ok d) = table_after t u (letter_for u unit.writable n None) n (Ok d)
 table_made t u unit n (Err failed.Memory) = t
 table_made t u unit n (Err failed.InDoubt) = vacated u n (marked u true t)
@@ -38,7 +38,7 @@ answer_made (Ok d) = Ok tt
 answer_made (Err why) = Err why
 
 -- an empty minidisk with this volume id and this stamp was made on unit u, for letter n
-pub record FormatsUnit (before now : Seen) (t t' : Accesses) (u n : ℕ) (unit : UnitInfo) (volid : List ℕ) (stamp : Stamp)
+pub record FormatsUnit (before now : Seen) (t t' : AccessTable) (u n : ℕ) (unit : UnitInfo) (volid : List ℕ) (stamp : Stamp)
     (result : Result ⊤ DiskFault) : Type 0 where
   pub made : Result Accessed DiskFault
   pub answer : result ≡ answer_made made

@@ -10,9 +10,9 @@ use Rattle.cms_machine.specs.Slots.{Slot, Settled, Doubt, IsAmong, set_of, state
 use Rattle.cms_machine.specs.Points.{LeavesIn, HasNowIn}
 use Rattle.cms_disk.specs.Cursors.{HasLeft}
 use Rattle.cms_disk.specs.Disks.{IsMinidisk, IsOn, IsQuiet, disk_on}
-use Rattle.cms_disk.specs.Making.{IsSeen}
+use Rattle.cms_disk.specs.EmptyMinidisks.{IsSeen}
 use Rattle.cms_disk.specs.declared.unit.UnitInfo.{UnitInfo}
-use Rattle.cms_search.specs.Tables.{Accesses, IsTable, Seated}
+use Rattle.cms_search.specs.Tables.{AccessTable, IsTable, Seated}
 use Rattle.cms_search.specs.declared.readings.KeptReading.{KeptReading}
 
 -- the disk of a unit, where it is accessed
@@ -51,7 +51,7 @@ StandsAs j u unit slot false (Some s) = (m : Minidisk) × (slot ≡ Settled (Vol
 
 -- the line of a unit: its number is its place, it has its blocks and no more are looked at, a crash leaves it in a state of its
 -- slot's set, and its contents have the slot's state
-pub record HoldsUnit (j : Journal) (units : List Slot) (t : Accesses) (u : ℕ) (unit : UnitInfo) : Type 0 where
+pub record HoldsUnit (j : Journal) (units : List Slot) (t : AccessTable) (u : ℕ) (unit : UnitInfo) : Type 0 where
   pub number : unit.unit.number ≡ u
   pub blocks : HasBlocks j.units u unit.unit.blocks unit.bsize
   pub writable : unit.writable ≡ true → IsWritable j.units u
@@ -66,7 +66,7 @@ pub record HoldsUnit (j : Journal) (units : List Slot) (t : Accesses) (u : ℕ) 
   pub has : (state : State) → HasNowIn j u state → state_in slot ≡ state
 
 -- the machine's units are those of the table and of the journal, and each has its line
-pub record HoldsTable (j : Journal) (units : List Slot) (t : Accesses) : Type 0 where
+pub record HoldsTable (j : Journal) (units : List Slot) (t : AccessTable) : Type 0 where
   pub table : IsTable t
   pub same : length units ≡ length t.units
   pub all : length t.units ≡ length j.units
@@ -75,7 +75,7 @@ pub record HoldsTable (j : Journal) (units : List Slot) (t : Accesses) : Type 0 
 -- ---- what a call leaves that touches one unit
 
 -- a unit's slot, its mark and its disk are as before
-pub record SameUnit (units units' : List Slot) (t t' : Accesses) (u : ℕ) : Type 0 where
+pub record SameUnit (units units' : List Slot) (t t' : AccessTable) (u : ℕ) : Type 0 where
   pub slot : slice_get units' u ≡ slice_get units u
   pub doubt : slice_get t'.doubts u ≡ slice_get t.doubts u
   pub disk : disk_of u t'.seats ≡ disk_of u t.seats

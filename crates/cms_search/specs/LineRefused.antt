@@ -4,8 +4,8 @@ use Rattle.cms_machine.specs.Acts.{saying, typed_line}
 use Rattle.cms_line.specs.Messages.{message_text}
 use Rattle.cms_line.specs.declared.token.Token.{Token}
 use Rattle.cms_operands.specs.Refusals.{code_of, message_of}
-use Rattle.cms_operands.specs.declared.choosing.CommandFault.{CommandFault}
-use Rattle.cms_operands.specs.declared.choosing.CommandFault.TheVariants as line
+use Rattle.cms_operands.specs.declared.options.CommandFault.{CommandFault}
+use Rattle.cms_operands.specs.declared.options.CommandFault.TheVariants as line
 use Rattle.cms_world.specs.Seen.{Seen}
 use Rattle.cms_search.specs.Calls.{Does, said}
 use Rattle.cms_search.specs.declared.state.Course.{Course}

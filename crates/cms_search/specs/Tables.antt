@@ -6,10 +6,10 @@ use Rattle.cms_model.specs.LawsSizes.{IsWhole}
 use Rattle.cms_model.specs.LawsUpdates.{now}
 use Rattle.cms_model.specs.declared.fault.OpenFault.TheVariants as failed
 use Rattle.cms_names.specs.declared.name.Name.{Name}
-use Rattle.cms_held.specs.Opening.{HeldFile}
+use Rattle.cms_held.specs.HeldVolumes.{HeldFile}
 use Rattle.cms_edf.specs.OpeningSteps.{OfImage}
 use Rattle.cms_edf.specs.declared.held.FileInfo.{FileInfo}
-use Rattle.cms_disk.specs.Cursors.{Reading, SameFile}
+use Rattle.cms_disk.specs.Cursors.{Cursor, SameFile}
 use Rattle.cms_disk.specs.Disks.{Accessed, AnswersAccess, IsLeft, IsOn, IsQuiet, StartsAt, disk_on, synced, told_with}
 use Rattle.cms_disk.specs.declared.fault.AccessFault.{AccessFault}
 use Rattle.cms_disk.specs.declared.fault.AccessFault.TheVariants.{Sync, Open}
@@ -63,7 +63,7 @@ pub record Seated : Type 0 where
   pub reading : Option KeptReading
 
 -- the units, whether each is in doubt, and the disk of each letter; a disk's unit is its place among the units
-pub record Accesses : Type 0 where
+pub record AccessTable : Type 0 where
   pub units : List UnitInfo
   pub doubts : List Bool
   pub seats : List (Option Seated)
@@ -73,7 +73,7 @@ abbrev pub letters_in : List (Option Seated) → List (Option Letter)
 letters_in seats = map (λ x. option_map (λ s. s.letter) x) seats
 
 -- the same of a table
-abbrev pub letters_of : Accesses → List (Option Letter)
+abbrev pub letters_of : AccessTable → List (Option Letter)
 letters_of t = letters_in t.seats
 
 -- the place of the unit of a device
@@ -98,7 +98,7 @@ IsSure doubts s = slice_get doubts s.letter.unit ≡ Some false
 
 -- it is a reading of a file of the disk, which has handed out as many of the records as it says
 pub record IsReadingOf (d : Accessed) (r : KeptReading) : Type 0 where
-  pub first : Reading
+  pub first : Cursor
   pub starts : StartsAt r.name d.volume first
   pub same : SameFile first r.cursor
   pub left : r.count + r.cursor.left ≡ first.left
@@ -108,7 +108,7 @@ abbrev pub KeepsItsOwn : Seated → Type 0
 KeepsItsOwn s = IfSome s.reading (IsReadingOf s.disk)
 
 -- what every table is
-pub record IsTable (t : Accesses) : Type 0 where
+pub record IsTable (t : AccessTable) : Type 0 where
   pub distinct : HaveDistinctDevices t.units
   pub doubts : length t.doubts ≡ length t.units
   pub letters : length t.seats ≡ 26
@@ -117,22 +117,22 @@ pub record IsTable (t : Accesses) : Type 0 where
   pub readings : (n : ℕ) (s : Seated) → item_at t.seats n ≡ Some s → KeepsItsOwn s
 
 -- each accessed disk is on its unit
-abbrev pub AreOnUnits : Accesses → Type 0
+abbrev pub AreOnUnits : AccessTable → Type 0
 AreOnUnits t =
     (n : ℕ) (s : Seated) (unit : UnitInfo) → item_at t.seats n ≡ Some s → slice_get t.units s.letter.unit ≡ Some unit → IsOn unit s.disk
 
 -- ---- what calls make of it
 
 -- nothing is accessed, and no unit is in doubt
-abbrev pub new_table : List UnitInfo → Accesses
+abbrev pub new_table : List UnitInfo → AccessTable
 new_table units = record { units = units; doubts = replicate (length units) false; seats = replicate 26 None }
 
 -- letter n has no disk any more
-abbrev pub released : ℕ → Accesses → Accesses
+abbrev pub released : ℕ → AccessTable → AccessTable
 released n t = record t { seats = cleared n t.seats }
 
 -- whether a unit is in doubt
-abbrev pub marked : ℕ → Bool → Accesses → Accesses
+abbrev pub marked : ℕ → Bool → AccessTable → AccessTable
 marked u doubt t = record t { doubts = slice_set t.doubts u doubt }
 
 -- a letter's disk is another, with the same marks; no reading of its files is kept
@@ -140,11 +140,11 @@ abbrev pub seat_with : Seated → Accessed → Seated
 seat_with s d = record s { disk = d; reading = None }
 
 -- letter n has another disk, with the same marks
-abbrev pub with_disk : ℕ → Accessed → Accesses → Accesses
+abbrev pub with_disk : ℕ → Accessed → AccessTable → AccessTable
 with_disk n d t = record t { seats = slice_set t.seats n (option_map (λ s. seat_with s d) (item_at t.seats n)) }
 
 -- the reading that the disk of letter n keeps
-abbrev pub reading_on : Accesses → ℕ → Option KeptReading
+abbrev pub reading_on : AccessTable → ℕ → Option KeptReading
 reading_on t n = option_and_then (λ s. s.reading) (item_at t.seats n)
 
 -- a disk keeps this one, or none
@@ -152,7 +152,7 @@ abbrev pub seat_reading : Option KeptReading → Seated → Seated
 seat_reading r s = record s { reading = r }
 
 -- the disk of letter n does so
-abbrev pub with_reading : ℕ → Option KeptReading → Accesses → Accesses
+abbrev pub with_reading : ℕ → Option KeptReading → AccessTable → AccessTable
 with_reading n r t =
     record t { seats = slice_set t.seats n (option_map (seat_reading r) (item_at t.seats n)) }
 
@@ -160,7 +160,7 @@ with_reading n r t =
 abbrev pub unread_seat : Seated → Seated
 unread_seat s = record s { reading = None }
 
-abbrev pub without_readings : Accesses → Accesses
+abbrev pub without_readings : AccessTable → AccessTable
 without_readings t = record t { seats = map (λ x. option_map unread_seat x) t.seats }
 
 -- a reading is of the file of a name, and stands behind so many of its records
@@ -168,11 +168,11 @@ abbrev pub Stood : Name → ℕ → KeptReading → Type 0
 Stood name count r = (r.name ≡ name) × (r.count ≡ count)
 
 -- a letter is released, and its unit is in doubt
-abbrev pub doubted : ℕ → ℕ → Accesses → Accesses
+abbrev pub doubted : ℕ → ℕ → AccessTable → AccessTable
 doubted n u t = released n (marked u true t)
 
 -- a disk of unit u is seated on letter n
-abbrev pub seated : ℕ → Seated → Accesses → Accesses
+abbrev pub seated : ℕ → Seated → AccessTable → AccessTable
 seated n s t = record t { seats = put_on (λ e. e.letter.unit) s n t.seats }
 
 -- ---- an access
@@ -185,7 +185,7 @@ answer_for (Err (Open failed.Memory)) = Err Memory
 answer_for (Err (Open why)) = Err (Volume why)
 
 -- the table afterwards: a good sync has ended the doubt, but where there was no memory
-abbrev pub table_after : Accesses → ℕ → Letter → ℕ → Result Accessed AccessFault → Accesses
+abbrev pub table_after : AccessTable → ℕ → Letter → ℕ → Result Accessed AccessFault → AccessTable
 table_after t u letter n (Ok d) =
     seated n (record { letter = letter; disk = d; reading = None }) (marked u false t)
 table_after t u letter n (Err Sync) = t
@@ -206,7 +206,7 @@ pub record LooksAt (told now_told : Told) (unit : UnitInfo) (doubt : Bool) (foun
   pub tells : now_told ≡ told_after doubt unit.unit.number told found
 
 -- how an access as letter n ends: refused with nothing done, or by what the unit holds
-abbrev pub EndsAccess : Told → Told → Accesses → Accesses → ℕ → Option ℕ → Result ⊤ SearchFault → Result ℕ SearchFault → Type 0
+abbrev pub EndsAccess : Told → Told → AccessTable → AccessTable → ℕ → Option ℕ → Result ⊤ SearchFault → Result ℕ SearchFault → Type 0
 EndsAccess told now_told t t' n ext result (Err e) = (result ≡ Err e) × (t' ≡ t) × (now_told ≡ told)
 EndsAccess told now_told t t' n ext result (Ok u) =
     (unit : UnitInfo) × (doubt : Bool) × (found : Result Accessed AccessFault) × (slice_get t.units u ≡ Some unit)
@@ -228,7 +228,7 @@ abbrev pub shelf_of : Seated → Shelf
 shelf_of s = record { letter = s.letter; files = map listed_held s.disk.volume.files }
 
 -- the disks of a table, as a search sees them
-abbrev pub shelves_of : Accesses → Shelves
+abbrev pub shelves_of : AccessTable → Shelves
 shelves_of t = map (λ x. option_map shelf_of x) t.seats
 
 -- ---- writing

@@ -8,7 +8,7 @@ use Rattle.cms_machine.specs.Items.{Item, Text, Bad, Long, Rest, Goes, extended,
 use Rattle.cms_machine.specs.Acts.{Act}
 use Rattle.cms_machine.specs.Objects.{Object}
 use Rattle.cms_machine.specs.Points.{Point}
-use Rattle.cms_line.specs.ConsoleState.{ConsoleState}
+use Rattle.cms_line.specs.ConsoleState.{Console}
 use Rattle.cms_search.specs.Asks as asking
 use Rattle.cms_world.specs.Seen.{Seen}
 use Rattle.cms_search.specs.Calls.{Meaning, Plays, machine_of}
@@ -22,7 +22,7 @@ use Rattle.cms_search.specs.declared.state.End.{End}
 use Rattle.cms_search.specs.declared.state.End.TheVariants.{Edge}
 
 -- where a run stands with this journal, this console, so many device faults, these units and these objects
-abbrev pub standing : Told → ConsoleState → ℕ → List Slot → List Object → Point
+abbrev pub standing : Told → Console → ℕ → List Slot → List Object → Point
 standing told console faults units objects = record {
   journal = told;
   faults = faults;
@@ -34,7 +34,7 @@ standing told console faults units objects = record {
 
 -- what is said of a call that takes lines of the console, types and asks the clock, and touches no
 -- unit
-pub record Talks {R T : Type 0} (before now : Seen) (was is : ConsoleState) (t : Act R) (r : Result T End) (done : T → R) : Type 0 where
+pub record Talks {R T : Type 0} (before now : Seen) (was is : Console) (t : Act R) (r : Result T End) (done : T → R) : Type 0 where
   -- on whichever units and beside whichever objects, and whichever the count of faults, it did its tree, or was cut off in it
   pub each : (faults : ℕ) (units : List Slot) (objects : List Object)
       → Plays (standing before.told was faults units objects) (standing now.told is faults units objects) t r done
@@ -63,7 +63,7 @@ IsNoLine (Text line) = ⊥
 IsNoLine item = ⊤
 
 -- of what was read only these items are gone, none of them a line, each for a turn that was spent; all behind them is unread still
-pub record KeepsRead (old new : Told) (was now : ConsoleState) (left left' : ℕ) : Type 0 where
+pub record KeepsRead (old new : Told) (was now : Console) (left left' : ℕ) : Type 0 where
   pub events : List Event
   pub told : new ≡ plus old events
   pub dropped : List Item

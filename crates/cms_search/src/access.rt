@@ -10,7 +10,7 @@ use crate::fault::SearchFault;
 use crate::place_event::PlaceEvent;
 use crate::places::Places;
 use crate::state::{End, State};
-use crate::table::{Seat, Table};
+use crate::table::{AccessTable, Seat};
 use cms_disk::OpenFault;
 use cms_world::World;
 use std::alloc::Global;
@@ -77,7 +77,7 @@ fn refused(fault: SearchFault) -> Result<AccessEnd, End>
 }
 
 // Whether the disk of a letter may only be read.
-fn is_read_only(table: &Table, letter: u8) -> bool
+fn is_read_only(table: &AccessTable, letter: u8) -> bool
     ensures read_only { result ≡ has (λ s. s.letter.read_only) (item_at table.now.seats letter) }
     ensures table { IsTable table.now }
 {

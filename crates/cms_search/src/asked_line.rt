@@ -1,7 +1,7 @@
 // A line that a command asks for.
 ghost use Rattle.std.specs.Prelude.{◌≡◌, ◌≤◌, IfOk, OnErr, OnOk, drop};
 ghost use Rattle.cms_machine.specs.Acts.{Done, taking, turning};
-ghost use Rattle.cms_line.specs.ConsoleState.{ConsoleState};
+ghost use Rattle.cms_line.specs.ConsoleState as states;
 ghost use Rattle.cms_line.specs.Consoles.{Stayed, Took, item_of};
 ghost use Rattle.cms_search.specs.Asks.{ask, complaining, complaint, dropping};
 ghost use Rattle.cms_search.specs.Calls.{Does, itself, said};
@@ -75,7 +75,7 @@ fn complain<W: World>(alloc: Global, world: &mut W, no_line: NoLine) -> Result<(
 
 // Drops it, which costs a turn: the clock is asked.
 fn drop_item<W: World>(alloc: Global, world: &mut W, no_line: NoLine) -> Result<(), End>
-    ensures { (c : ConsoleState) → Talks (seen W.World world.old) (seen W.World world.new) c c
+    ensures { (c : states.Console) → Talks (seen W.World world.old) (seen W.World world.new) c c
         (dropping (complaint (item_in no_line))) result said }
 {
     clock(world)?;

@@ -8,7 +8,7 @@ ghost use Rattle.cms_machine.specs.Slots.{Slot};
 ghost use Rattle.cms_world.specs.Seen.{seen};
 ghost use Rattle.cms_line.specs.Messages.{message_text};
 ghost use Rattle.cms_line.specs.declared.message.Message.TheVariants.{M105, M106};
-ghost use Rattle.cms_edf.specs.Planning.{CanChange, change_of};
+ghost use Rattle.cms_edf.specs.ChangePlans.{CanChange, change_of};
 ghost use Rattle.cms_search.specs.Calls.{Acts, Does, IsUsable, Spot, said, spot};
 ghost use Rattle.cms_search.specs.DeviceSteps.{changing_by, changing_of, changing_tree};
 ghost use Rattle.cms_search.specs.FileWrites.{Updated};

@@ -9,7 +9,7 @@ ghost use Rattle.cms_disk.specs.Drafts.{IsFull};
 ghost use Rattle.cms_search.specs.Drafts.{CommitsSeat, CommitsTo, DraftsMoreSeat, DraftsSeat, MayCommit, MayDraftMore};
 ghost use Rattle.cms_search.specs.Searches.{item_at};
 
-use crate::table::Table;
+use crate::table::AccessTable;
 use cms_disk::{DiskFault, Draft, DraftShape, Minidisk};
 use cms_fields::Stamp;
 use cms_names::Name;
@@ -26,7 +26,7 @@ fn commit_draft<W: World>(world: &mut W, disk: &mut Minidisk, draft: Draft) -> R
     disk.commit(world, draft)
 }
 
-impl Table {
+impl AccessTable {
     /// Plans a file for the disk of an accessed letter, where the place of the file of that name is known, or that there is none, as
     /// `Minidisk`'s call does. Nothing is written, and the disk stays as it is.
     pub fn draft(

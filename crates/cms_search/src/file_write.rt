@@ -13,7 +13,7 @@ ghost use Rattle.cms_search.specs.Tables.{letters_of, writing};
 
 use crate::device_step::{Changed, end_update};
 use crate::state::{End, State};
-use crate::table::Table;
+use crate::table::AccessTable;
 use cms_disk::{DiskFault, FileData, Minidisk};
 use cms_fields::Stamp;
 use cms_names::Name;
@@ -52,7 +52,7 @@ fn update_minidisk<W: World>(
     }
 }
 
-impl Table {
+impl AccessTable {
     /// Updates a file of the disk of an accessed letter in place, as `Minidisk`'s call does; the directory has this stamp then.
     pub fn update<W: World>(
         &mut self,

@@ -7,13 +7,13 @@ ghost use Rattle.cms_disk.specs.declared.unit.UnitInfo.{UnitInfo};
 ghost use Rattle.cms_search.specs.Format.{FormatsUnit, MayFormat, answer_made, table_made};
 ghost use Rattle.cms_search.specs.Tables.{place_of_device, unit_of_device};
 
-use crate::table::Table;
+use crate::table::AccessTable;
 use cms_disk::{DiskFault, Minidisk};
 use cms_fields::Stamp;
 use cms_world::World;
 use std::alloc::Global;
 
-impl Table {
+impl AccessTable {
     // Releases the unit in a place and the letter, and seats the disk that was made.
     fn take_made(
         &mut self,

@@ -42,7 +42,7 @@ pub use refusals::{
 pub use search::{Found, FoundList};
 pub use session_turn::turn;
 pub use state::{Course, Device, End, State};
-pub use table::{LETTERS, Seat, Table, UnitList};
+pub use table::{AccessTable, LETTERS, Seat, UnitList};
 pub use texts::{
     add_left, add_right, device_text, device_word, first_column, hexadecimal_digit, letter_text,
     letter_word,

@@ -5,7 +5,7 @@ ghost use Rattle.cms_search.specs.Searches.{item_at};
 ghost use Rattle.cms_search.specs.Tables.{IsReadingOf, Stood, reading_on, unread_seat, with_reading, without_readings};
 
 use crate::seated::Seated;
-use crate::table::Table;
+use crate::table::AccessTable;
 use cms_disk::Cursor;
 use cms_names::Name;
 
@@ -62,7 +62,7 @@ fn drop_all(seats: &mut Vec<Option<Seated>>)
     }
 }
 
-impl Table {
+impl AccessTable {
     /// No disk keeps a reading.
     pub fn drop_readings(&mut self)
         ensures { self.new ≡ without_readings self.old }

@@ -9,7 +9,7 @@ ghost use Rattle.cms_search.specs.declared.fault.SearchFault.TheVariants.{Memory
 use crate::fault::SearchFault;
 use crate::order::SearchOrder;
 use crate::seated::Seated;
-use crate::table::Table;
+use crate::table::AccessTable;
 use cms_disk::FileInfo;
 use cms_names::{Name, Pattern};
 use cms_operands::ReadMode;
@@ -36,7 +36,7 @@ fn is_found(seat: &Seated, info: &FileInfo, file: &Pattern, kind: &Pattern, mode
     file.fits(&info.name.file) && kind.fits(&info.name.kind) && seat.may_find(mode, info.number)
 }
 
-impl Table {
+impl AccessTable {
     // Whether the disk of a letter is searched behind another, or with none at all.
     fn is_searched(&self, letter: u8, base: Option<u8>) -> bool
         ensures { result ≡ has (is_searched base) (item_at (shelves_of self.now) letter) }

@@ -8,7 +8,7 @@ ghost use Rattle.cms_search.specs.declared.state.End.TheVariants.{Memory};
 
 use crate::asked_line::{Asked, ask};
 use crate::places::Places;
-use crate::table::{Table, UnitList};
+use crate::table::{AccessTable, UnitList};
 use cms_fields::{FIRST_MOMENT, Moment};
 use cms_line::{Console, ProgStack};
 use cms_words::Words;
@@ -32,7 +32,7 @@ pub struct Device {
 #[derive(Drop)]
 pub struct State {
     /// the units, and the letters as which their disks are accessed
-    pub table: Table,
+    pub table: AccessTable,
     /// the lines that were left for the next command that asks for one
     pub stack: ProgStack,
     pub console: Console,
@@ -55,7 +55,7 @@ impl State {
         ensures moment { IfOk result (λ state. is_moment state.moment ≡ true) }
     {
         Ok(State {
-            table: Table::new(alloc, units)?,
+            table: AccessTable::new(alloc, units)?,
             stack: ProgStack::new(alloc),
             console: Console::new(alloc, None)?,
             places: Places::new(alloc),

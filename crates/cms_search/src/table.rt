@@ -10,7 +10,7 @@ ghost use Rattle.cms_search.specs.Units.{letter_with};
 ghost use Rattle.cms_search.specs.Format.{vacated};
 ghost use Rattle.cms_search.specs.Searches.{has, item_at};
 ghost use Rattle.cms_fields.specs.Stamps.{is_stamp};
-ghost use Rattle.cms_edf.specs.Planning.{change_of};
+ghost use Rattle.cms_edf.specs.ChangePlans.{change_of};
 ghost use Rattle.cms_search.specs.Seats.{ChangesSeat, ChangesTo, HasDevice, MayChange};
 ghost use Rattle.cms_search.specs.Tables.{EndsAccess, HaveDistinctDevices, IsTable, LooksAt, answer_for, table_after, letter_for, letters_of, marked, missing_parent, new_table, parent_of, place_of_device, released, seated, unit_of_device, wanted_unit, writing};
 ghost use Rattle.cms_search.specs.declared.fault.SearchFault.TheVariants.{NotAccessed, Volume};
@@ -45,16 +45,17 @@ pub struct Seat {
 /// The units of a session, and the letters as which their disks are accessed. A unit stands on one letter at most, and on none while it
 /// is in doubt. Letters are numbers, A is 0.
 #[derive(Drop)]
-pub struct Table {
+pub struct AccessTable {
     units: UnitList,
     doubts: Vec<bool>,
     pub(crate) seats: Vec<Option<Seated>>,
 }
 
-impl Model for Table {
-    ghost use Rattle.cms_search.specs.Tables.{Accesses, IsTable};
+impl Model for AccessTable {
+    ghost use Rattle.cms_search.specs.Tables as tables;
+    ghost use Rattle.cms_search.specs.Tables.{IsTable};
 
-    ghost Value = { Accesses };
+    ghost Value = { tables.AccessTable };
 
     ghost view = { λ t. record { units = t.units; doubts = t.doubts.items; seats = t.seats.items } };
 
@@ -112,9 +113,9 @@ fn change_minidisk<W: World>(
     }
 }
 
-impl Table {
+impl AccessTable {
     /// A table of units with distinct devices. Nothing is accessed, and no unit is in doubt.
-    pub fn new(alloc: Global, units: UnitList) -> Result<Table, AllocError>
+    pub fn new(alloc: Global, units: UnitList) -> Result<AccessTable, AllocError>
         requires { HaveDistinctDevices units }
         ensures { IfOk result (λ t. t ≡ new_table units) }
     {
@@ -122,7 +123,7 @@ impl Table {
         for _ in 0..LETTERS {
             seats.push(None)?;
         }
-        Ok(Table {
+        Ok(AccessTable {
             doubts: vec![in alloc; false; units.len()]?,
             units,
             seats,

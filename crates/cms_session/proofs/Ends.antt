@@ -32,7 +32,7 @@ use Rattle.cms_search.specs.declared.state.End.TheVariants as cut
 use Rattle.cms_search.specs.declared.state.State as declared
 use Rattle.cms_ext.specs.Extensions.{desk}
 use Rattle.cms_rounds.proofs.Alone.{standing}
-use Rattle.cms_words.specs.declared.reading.Words.{Words}
+use Rattle.cms_words.specs.declared.words.Words.{Words}
 use Rattle.cms_world.specs.Seen.{Seen}
 use Rattle.cms_session.specs.Machine.{machine, started}
 use Rattle.cms_session.specs.Calls.{session_tree, finished}

@@ -6,7 +6,7 @@ use Rattle.cms_machine.specs.Beats.{Asked, Beat, Beats, Chain, Dropped}
 use Rattle.cms_machine.specs.LawsObjects.{AreDistinct}
 use Rattle.cms_machine.specs.Objects.{Object}
 use Rattle.cms_machine.specs.Points.{Point}
-use Rattle.cms_machine.proofs.Asking.{asked_answers, asked_no_more, dropped_is_gone, stay_distinct}
+use Rattle.cms_machine.proofs.ObjectsAsked.{asked_answers, asked_no_more, dropped_is_gone, stay_distinct}
 use Rattle.cms_ext.specs.Objects.{Means, object_in, objects_of, words_of}
 use Rattle.cms_ext.specs.declared.list.ExtList.{ExtList}
 use Rattle.cms_ext.proofs.Lists.{distinct}

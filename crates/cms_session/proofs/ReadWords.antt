@@ -8,7 +8,7 @@ use Rattle.cms_words.specs.Command.{are_taken, rows_in, units_in, value_in}
 use Rattle.cms_words.specs.UnitWords.{unit_word_of}
 use Rattle.cms_words.specs.Words.{◌>>=◌, seed_of, turns_of, units_from, values_of, without_repeat, words_of, zone_of}
 use Rattle.cms_words.specs.declared.unit.UnitWord.{UnitWord}
-use Rattle.cms_words.specs.declared.reading.Words.{Words}
+use Rattle.cms_words.specs.declared.words.Words.{Words}
 use Rattle.cms_words.specs.declared.fault.WordFault.{WordFault}
 use Rattle.cms_words.specs.declared.fault.WordFault.TheVariants as fault
 use Rattle.cms_world.specs.Seen.{Seen}

@@ -14,7 +14,7 @@ use Rattle.cms_model.specs.Settled.{IsFirm}
 use Rattle.cms_model.specs.LawsSizes.{IsWhole}
 use Rattle.cms_model.specs.LawsUpdates.{now}
 use Rattle.cms_model.specs.declared.fault.OpenFault.{OpenFault}
-use Rattle.cms_model.proofs.Settling.{untouched_starts}
+use Rattle.cms_model.proofs.SettledUnits.{untouched_starts}
 use Rattle.cms_machine.specs.Slots.{Settled}
 use Rattle.cms_machine.specs.Points.{LeavesIn, HasNowIn}
 use Rattle.cms_disk.specs.Disks.{IsQuiet, disk_on}

@@ -23,7 +23,7 @@ use Rattle.cms_machine.specs.Points.{Leaves, HasNow, Point}
 use Rattle.cms_machine.specs.Beats.{AreWellOn, Beat, backs, outcomes, pieces}
 use Rattle.cms_machine.specs.Runs.{Broke, Ran, events_of}
 use Rattle.cms_search.specs.Machine.{Machine}
-use Rattle.cms_line.specs.ConsoleState.{ConsoleState}
+use Rattle.cms_line.specs.ConsoleState.{Console}
 use Rattle.cms_world.specs.Seen.{Seen}
 use Rattle.cms_search.specs.declared.state.Device.{Device}
 use Rattle.cms_ext.specs.Extensions.{Desk, desk}
@@ -60,7 +60,7 @@ given_bytes None = []
 given_bytes (Some bytes) = bytes
 
 -- nothing of the world's script was read; a script that is given is read, and ended
-abbrev pub first_console : Option (List ℕ) → ConsoleState
+abbrev pub first_console : Option (List ℕ) → Console
 first_console given = record { unread = record { within = 0; bytes = given_bytes given }; ended = is_some given }
 
 -- a point of the journal at which nothing of the script was taken

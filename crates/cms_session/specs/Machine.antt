@@ -9,7 +9,7 @@ use Rattle.cms_machine.specs.Feeds.{Fed, feed}
 use Rattle.cms_search.specs.Access.{accessing}
 use Rattle.cms_search.specs.Machine.{Machine}
 use Rattle.cms_ext.specs.Extensions.{Desk, desk}
-use Rattle.exec2_run.specs.State.{Procedure}
+use Rattle.exec2_run.specs.State.{Exec}
 use Rattle.cms_cards.specs.PunchedCards.{Decks}
 use Rattle.cms_rounds.specs.Procedures.{Passed, Stops, Goes}
 use Rattle.cms_rounds.specs.Rounds.{round}
@@ -19,17 +19,17 @@ use Rattle.cms_rounds.specs.declared.state.Finish.TheVariants as finish
 -- ---- the session
 
 -- the next round follows with the decks that are left, unless the session has ended
-abbrev pub then_round : (Desk → Decks → List Procedure → Act Finish) → Passed × Decks → Act Finish
+abbrev pub then_round : (Desk → Decks → List Exec → Act Finish) → Passed × Decks → Act Finish
 then_round next (Stops end, decks) = Done end
 then_round next (Goes d ps, decks) = next d decks ps
 
 -- so many rounds at most: each spends a turn, so one more than the turns is enough
-unfoldable pub session : ℕ → Desk → Decks → List Procedure → Act Finish
+unfoldable pub session : ℕ → Desk → Decks → List Exec → Act Finish
 session zero d decks ps = Done finish.AtTurns
 session (suc more) d decks ps = bind (round d decks ps) (then_round (session more))
 
 -- rounds follow
-abbrev pub rounds : Desk → Decks → List Procedure → Act Finish
+abbrev pub rounds : Desk → Decks → List Exec → Act Finish
 rounds d decks ps = session (suc d.machine.left) d decks ps
 
 -- lines are run; no deck is there at the start

@@ -27,7 +27,7 @@ use Rattle.cms_words.specs.declared.fault.WordFault.{WordFault}
 use Rattle.cms_words.specs.declared.fault.WordFault.TheVariants as fault
 use Rattle.cms_words.specs.declared.unit.UnitWord.{UnitWord}
 use Rattle.cms_session.specs.Machine.{started}
-use Rattle.cms_words.specs.declared.reading.Words.{Words}
+use Rattle.cms_words.specs.declared.words.Words.{Words}
 use Rattle.cms_session.specs.Words.{Asked, Read, given_by}
 use Rattle.cms_session.specs.Words as words
 use Rattle.cms_session.specs.Headline.{Start, Headline, fresh, first_machine, first_point}

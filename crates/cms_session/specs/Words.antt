@@ -3,7 +3,7 @@ use Rattle.std.specs.Prelude.{◌≡◌, ℕ, ◌≤◌, ℤ, List, length, Opti
 use Rattle.std.specs.Option.{option_map}
 use Rattle.cms_words.specs.Words.{without_repeat, words_of}
 use Rattle.cms_words.specs.declared.fault.WordFault.{WordFault}
-use Rattle.cms_words.specs.declared.reading.Words.{Words}
+use Rattle.cms_words.specs.declared.words.Words.{Words}
 use Rattle.cms_words.specs.declared.unit.UnitWord.{UnitWord}
 use Rattle.cms_generator.specs.Generator.{script_of}
 

@@ -1,3 +1,3 @@
 pub mod Keywords
 pub mod Numerals
-pub mod Overwriting
+pub mod Overwritten

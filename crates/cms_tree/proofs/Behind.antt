@@ -17,9 +17,9 @@ use Rattle.cms_tree.specs.Levels.{over_count}
 use Rattle.cms_tree.specs.Kept.{Kept, kept_here, kept_above, nothing}
 use Rattle.cms_tree.specs.Tiers.{AllKeep, Keeps, Stand, Tier, behind_kept, cells_from, complete_from, ends_group, node_in, node_on, node_write, pointing, put_node, tier_above}
 use Rattle.cms_tree.specs.Climbs.{climb_writes, climb_writes_on, numbers_behind}
-use Rattle.cms_tree.proofs.Lifting.{before_is, div_mono, front_at, group_within, length-cells_from}
+use Rattle.cms_tree.proofs.ClimbBlocks.{before_is, div_mono, front_at, group_within, length-cells_from}
+use Rattle.cms_tree.proofs.ClimbSteps.{over_all, tier_lowest}
 use Rattle.cms_tree.proofs.Own.{in_behind, in_drop, in_take}
-use Rattle.cms_tree.proofs.Stepping.{over_all, tier_lowest}
 
 -- ---- where they stand among all
 

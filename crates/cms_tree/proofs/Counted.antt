@@ -7,7 +7,7 @@ use Rattle.cms_fields.specs.Numbers.{up}
 use Rattle.cms_tree.specs.Climbs.{numbers_behind}
 use Rattle.cms_tree.specs.Levels.{over_count}
 use Rattle.cms_tree.specs.Tiers.{complete_from, ends_group}
-use Rattle.cms_tree.proofs.Lifting.{ends_is, goes_is, group_within}
+use Rattle.cms_tree.proofs.ClimbBlocks.{ends_is, goes_is, group_within}
 use Rattle.cms_tree.proofs.Totals.{Ended, ended_more, ended_same, places}
 
 -- with one block of the level more

@@ -6,11 +6,11 @@ use Rattle.cms_model.specs.Trees.{Image, Form}
 use Rattle.cms_model.specs.Sizes.{levels}
 use Rattle.cms_model.specs.Built.{AllAllowed, Built}
 use Rattle.cms_model.specs.ByLevels.{Heaped}
-use Rattle.cms_model.proofs.Building.{built_reads}
+use Rattle.cms_model.proofs.BuiltTrees.{built_reads}
 use Rattle.cms_model.proofs.Shapes.{levels_needs}
 use Rattle.cms_model.proofs.SharedTiers.{points_tier}
 use Rattle.cms_tree.specs.Paths.{HeapedIsRead}
-use Rattle.cms_tree.proofs.Building.{Fits, fits_above}
+use Rattle.cms_tree.proofs.BuiltTrees.{Fits, fits_above}
 
 allowed_both : (last : ℕ) (xs ys : List ℕ) → AllAllowed last None (xs ++ ys) → AllAllowed last None xs × AllAllowed last None ys
 allowed_both last [] ys all = (tt, all)

@@ -2,18 +2,18 @@ pub mod Sums
 pub mod Blocks
 pub mod Rest
 pub mod Within
-pub mod Filling
-pub mod Rising
+pub mod FilledBlocks
+pub mod LevelsBuilt
 pub mod Plain
-pub mod Building
-pub mod Lifting
-pub mod Stepping
+pub mod BuiltTrees
+pub mod ClimbBlocks
+pub mod ClimbSteps
 pub mod Totals
 pub mod Counted
 pub mod Own
 pub mod Behind
-pub mod Resuming
+pub mod Resumes
 pub mod Heaps
-pub mod Pathing
+pub mod Paths
 mod PathRows
 mod ResumeRows

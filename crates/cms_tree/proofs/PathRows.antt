@@ -1,7 +1,7 @@
 -- Small trees that share their pointer blocks: 100 and on are the old ones, 1000 and on the fresh ones.
 use Rattle.std.proofs.Common.{◌≡◌, [], ◌∷◌, refl}
 use Rattle.cms_model.specs.Sizes.{levels, levels_from}
-use Rattle.cms_model.specs.Sharing.{any_within, is_kept, fresh_on}
+use Rattle.cms_model.specs.SharedTrees.{any_within, is_kept, fresh_on}
 use Rattle.cms_model.specs.SharedTimes.{gone, without}
 use Rattle.cms_tree.specs.Paths.{levels_of, numbered, path_levels, paths, tree_levels}
 

@@ -10,8 +10,8 @@ use Rattle.cms_tree.specs.Builds.{all_over, node_bytes}
 use Rattle.cms_tree.specs.Levels.{children_from, over_count}
 use Rattle.cms_tree.specs.Kept.{nothing}
 use Rattle.cms_tree.specs.Tiers.{Tier, tier_above, cells_from, behind_kept, pointing, node_in}
-use Rattle.cms_tree.proofs.Filling.{cells, length-children, below_some}
-use Rattle.cms_tree.proofs.Rising.{found, higher}
+use Rattle.cms_tree.proofs.FilledBlocks.{cells, length-children, below_some}
+use Rattle.cms_tree.proofs.LevelsBuilt.{found, higher}
 
 -- either way there is none
 pub either : (b : Bool) → cond {A = Option ℕ} b None None ≡ None

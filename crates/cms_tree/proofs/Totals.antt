@@ -16,8 +16,8 @@ use Rattle.cms_tree.specs.declared.types.Mark.{Mark}
 use Rattle.cms_tree.specs.Levels.{over_count}
 use Rattle.cms_tree.specs.Tiers.{complete_from, ends_group, node_write}
 use Rattle.cms_tree.specs.Climbs.{climb_writes, climbed, ClimbsAll}
-use Rattle.cms_tree.proofs.Lifting.{Ends, ends_is, ends_begins, Goes, goes_is, next_within, group_within, some_fan}
-use Rattle.cms_tree.proofs.Stepping.{over_all}
+use Rattle.cms_tree.proofs.ClimbBlocks.{Ends, ends_is, ends_begins, Goes, goes_is, next_within, group_within, some_fan}
+use Rattle.cms_tree.proofs.ClimbSteps.{over_all}
 
 -- ---- ranges of places
 

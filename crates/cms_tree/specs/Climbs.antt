@@ -19,7 +19,7 @@ use Rattle.cms_tree.specs.Tiers.{complete_from, node_on, node_write, put_node, l
 
 -- a climb: the bytes of a block and of a pointer, how many leaves there are to be and how many were added, and the open pointer
 -- block of each level, bottom level first
-pub record Climbing : Type 0 where
+pub record Climb : Type 0 where
   pub bsize : ℕ
   pub psize : ℕ
   pub count : ℕ
@@ -31,12 +31,12 @@ abbrev pub HasSize : ℕ → Level → Type 0
 HasSize bsize level = length level.bytes.items ≡ bsize
 
 -- it holds one block for each level
-pub record HoldsLittle (c : Climbing) : Type 0 where
+pub record HoldsLittle (c : Climb) : Type 0 where
   pub levels : length c.levels ≡ levels (c.bsize / c.psize) c.count
   pub blocks : All (HasSize c.bsize) c.levels
 
 -- what always holds
-pub record IsClimbing (c : Climbing) : Type 0 where
+pub record IsClimbing (c : Climb) : Type 0 where
   pub size : IsBlockSize c.bsize
   pub pointer : (c.psize ≡ 4) ⊎ (c.psize ≡ 12)
   pub some : 1 ≤ c.count
@@ -78,7 +78,7 @@ climb_writes_on bsize psize leaves marks fresh kept es i =
 
 -- the climb has kept or added the first of these leaves, with these marks, and its pointer blocks
 -- have these numbers
-pub record ClimbsOn (c : Climbing) (kept : ℕ) (es : List Kept) (leaves : List ℕ) (marks : List Mark)
+pub record ClimbsOn (c : Climb) (kept : ℕ) (es : List Kept) (leaves : List ℕ) (marks : List Mark)
     (fresh : List ℕ) : Type 0 where
   pub plan : IsBuildable c.bsize c.psize leaves marks fresh
   pub count : c.count ≡ length leaves
@@ -86,22 +86,22 @@ pub record ClimbsOn (c : Climbing) (kept : ℕ) (es : List Kept) (leaves : List 
       → Stand c.bsize c.psize marks (length leaves) fresh (lowest kept leaves) es c.added c.levels
 
 -- where nothing is kept
-abbrev pub Climbs : Climbing → List ℕ → List Mark → List ℕ → Type 0
+abbrev pub Climbs : Climb → List ℕ → List Mark → List ℕ → Type 0
 Climbs c leaves marks fresh = ClimbsOn c 0 [] leaves marks fresh
 
 -- the leaf and its mark are the next
-pub record IsNext (c : Climbing) (leaves : List ℕ) (marks : List Mark) (leaf : ℕ) (mark : Mark) : Type 0 where
+pub record IsNext (c : Climb) (leaves : List ℕ) (marks : List Mark) (leaf : ℕ) (mark : Mark) : Type 0 where
   pub leaf_is : leaf ≡ slice_index leaves c.added
   pub mark_is : c.psize ≡ 12 → mark ≡ mark_at marks c.added
 
 -- a leaf was added, and the pointer blocks that it completes were written, or some of them and it failed
-abbrev pub Adds : Told → Told → ℕ → Climbing → Climbing → List ℕ → List Mark → List ℕ → Result ⊤ Failed → Type 0
+abbrev pub Adds : Told → Told → ℕ → Climb → Climb → List ℕ → List Mark → List ℕ → Result ⊤ Failed → Type 0
 Adds old new u c c' leaves marks fresh (Ok x) =
     (new ≡ plus old (writes u (climb_writes c.bsize c.psize leaves marks fresh c.added))) × Climbs c' leaves marks fresh
 Adds old new u c c' leaves marks fresh (Err e) = AddsFront old new (writes u (climb_writes c.bsize c.psize leaves marks fresh c.added))
 
 -- the same of a tree that keeps some of the tree before
-abbrev pub AddsOn : Told → Told → ℕ → Climbing → Climbing → ℕ → List Kept → List ℕ → List Mark
+abbrev pub AddsOn : Told → Told → ℕ → Climb → Climb → ℕ → List Kept → List ℕ → List Mark
     → List ℕ → Result ⊤ Failed → Type 0
 AddsOn old new u c c' kept es leaves marks fresh (Ok x) =
     (new ≡ plus old
@@ -112,7 +112,7 @@ AddsOn old new u c c' kept es leaves marks fresh (Err e) =
     (writes u (climb_writes_on c.bsize c.psize leaves marks fresh kept es c.added))
 
 -- none is added of so many leaves, whatever these are
-pub record IsNew (bsize psize count : ℕ) (c : Climbing) : Type 0 where
+pub record IsNew (bsize psize count : ℕ) (c : Climb) : Type 0 where
   pub bsize_is : c.bsize ≡ bsize
   pub psize_is : c.psize ≡ psize
   pub count_is : c.count ≡ count

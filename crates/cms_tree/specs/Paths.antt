@@ -8,7 +8,7 @@ use Rattle.cms_model.specs.Trees.{Image, Form}
 use Rattle.cms_model.specs.Built.{AllAllowed, ReadsAs}
 use Rattle.cms_model.specs.ByLevels.{Heaped}
 use Rattle.cms_model.specs.Sizes.{levels, pointer_count, pointers_to}
-use Rattle.cms_model.specs.Sharing.{any_within, is_kept, fresh_on, fresh_to}
+use Rattle.cms_model.specs.SharedTrees.{any_within, is_kept, fresh_on, fresh_to}
 use Rattle.cms_model.specs.SharedTiers.{Names, Shared, group}
 use Rattle.cms_model.specs.SharedTimes.{came}
 

@@ -13,7 +13,7 @@ use Rattle.cms_tree.specs.declared.climb.Before.{Before}
 use Rattle.cms_tree.specs.Builds.{Child, IsBuildable, cell_of, root_of}
 use Rattle.cms_tree.specs.Paths.{levels_of}
 use Rattle.cms_tree.specs.Kept.{Kept, kept_here, kept_above}
-use Rattle.cms_tree.specs.Climbs.{Climbing, ClimbsOn, HoldsLittle}
+use Rattle.cms_tree.specs.Climbs.{Climb, ClimbsOn, HoldsLittle}
 
 -- ---- what is kept
 
@@ -72,7 +72,7 @@ kept_of fan psize image old_leaves old_pointers last mark kept leaves =
 
 -- it stands as after the kept leaves, whatever the others are, with what the unit has of the tree before
 pub record IsResumed (told : Told) (u bsize psize old_leaves : ℕ) (old_pointers : List ℕ) (last : ℕ) (mark : Mark)
-    (kept leaves : ℕ) (c : Climbing) : Type 0 where
+    (kept leaves : ℕ) (c : Climb) : Type 0 where
   pub bsize_is : c.bsize ≡ bsize
   pub psize_is : c.psize ≡ psize
   pub count_is : c.count ≡ leaves

@@ -54,9 +54,10 @@ struct Child {
 }
 
 impl Model for Climb {
-    ghost use Rattle.cms_tree.specs.Climbs.{Climbing, IsClimbing};
+    ghost use Rattle.cms_tree.specs.Climbs as climbs;
+    ghost use Rattle.cms_tree.specs.Climbs.{IsClimbing};
 
-    ghost Value = { Climbing };
+    ghost Value = { climbs.Climb };
 
     ghost view = { λ c. record { bsize = c.bsize; psize = c.psize; count = c.leaves; added = c.added; levels = c.levels.items } };
 

@@ -5,7 +5,7 @@ use Rattle.clap.specs.Words.{Row, Text}
 use Rattle.cms_words.specs.Command.{are_taken, rows_in, units_in, value_in}
 use Rattle.cms_words.specs.Words.{units_from, turns_of, zone_of, seed_of, without_repeat, values_of, words_of}
 use Rattle.cms_words.specs.Readings.{IsAnswer}
-use Rattle.cms_words.specs.declared.reading.Words.{Words}
+use Rattle.cms_words.specs.declared.words.Words.{Words}
 use Rattle.cms_words.specs.declared.unit.UnitWord.{UnitWord}
 use Rattle.cms_words.specs.declared.fault.WordFault.{WordFault}
 use Rattle.cms_words.specs.declared.fault.WordFault.TheVariants.{Syntax}

@@ -9,7 +9,7 @@ use Rattle.cms_words.specs.Command.{are_taken, rows_in, units_in, value_in}
 use Rattle.cms_words.specs.declared.fault.WordFault.{WordFault}
 use Rattle.cms_words.specs.declared.fault.WordFault.TheVariants.{Syntax, Unit, Turns, Zone, Twice, Seed, Memory}
 use Rattle.cms_words.specs.declared.unit.UnitWord.{UnitWord}
-use Rattle.cms_words.specs.declared.reading.Words.{Words}
+use Rattle.cms_words.specs.declared.words.Words.{Words}
 
 infixl 10 ◌>>=◌
 -- goes on with what was read, or with the refusal

@@ -7,11 +7,11 @@
 mod command;
 mod fault;
 mod numbers;
-mod reading;
 mod unit;
 mod units;
+mod words;
 
 pub use fault::WordFault;
-pub use reading::{Words, read_words};
 pub use unit::UnitWord;
 pub use units::UnitWords;
+pub use words::{Words, read_words};

@@ -1,4 +1,4 @@
 pub mod Chosen
 pub mod ImageLists
 pub mod Records
-pub mod Standing
+pub mod UnitImages

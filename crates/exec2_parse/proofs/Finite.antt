@@ -13,7 +13,7 @@ use Rattle.std.specs.BTreeMap.{is_at}
 use Rattle.std.specs.FinMap as finite
 use Rattle.std.specs.FinMap.{find, get-from_entries, get-insert, get-remove, len-empty, len-insert, same_map, slice_cmp-IsAntisymmetric, nat_cmp-IsAntisymmetric}
 use Rattle.cms_text.specs.Texts.{Text}
-use Rattle.exec2_parse.specs.Variables.{Values, texts_of}
+use Rattle.exec2_parse.specs.Variables.{Vars, texts_of}
 
 -- the order of names
 abbrev pub R : Text → Text → Ordering
@@ -36,16 +36,16 @@ module _ {Z : Type 0} where
   lookup_texts q (e ∷ es) = ap (cond (at q e.0) (Some e.1)) (lookup_texts q es)
 
   -- what the map answers
-  pub answers : (m : Values) (es : Entries Z) (q : Text) → finite.from_entries (texts_of es) ≡ m → lookup (at q) es ≡ finite.get m q
-  answers m es q is = sym (lookup_texts q es) ∙ sym (get-from_entries nat_list_cmp_total (texts_of es) q) ∙ ap (λ (n : Values). finite.get n q) is
+  pub answers : (m : Vars) (es : Entries Z) (q : Text) → finite.from_entries (texts_of es) ≡ m → lookup (at q) es ≡ finite.get m q
+  answers m es q is = sym (lookup_texts q es) ∙ sym (get-from_entries nat_list_cmp_total (texts_of es) q) ∙ ap (λ (n : Vars). finite.get n q) is
 
   -- entries that answer as a map does are that map
-  alike : (m : Values) (es : Entries Z) → ((q : Text) → lookup (at q) es ≡ finite.get m q) → finite.from_entries (texts_of es) ≡ m
+  alike : (m : Vars) (es : Entries Z) → ((q : Text) → lookup (at q) es ≡ finite.get m q) → finite.from_entries (texts_of es) ≡ m
   alike m es same = same_map nat_list_cmp_total (slice_cmp-IsAntisymmetric nat_cmp-IsAntisymmetric) _ m (λ q.
       get-from_entries nat_list_cmp_total (texts_of es) q ∙ lookup_texts q es ∙ same q)
 
   -- entries in which the value of one name alone is another
-  module _ (m : Values) (es new : Entries Z) (k : Text) (w : Option Text) (is : finite.from_entries (texts_of es) ≡ m) (there : lookup (at k) new ≡ w)
+  module _ (m : Vars) (es new : Entries Z) (k : Text) (w : Option Text) (is : finite.from_entries (texts_of es) ≡ m) (there : lookup (at k) new ≡ w)
       (keeps : KeepsOthers (eq_by_cmp (λ x y. R x.items y.items)) (at k) es new) where
     updated : (q : Text) (b : Bool) → is_eq (R q k) ≡ b → lookup (at q) new ≡ cond b w (finite.get m q)
     unfolding KeepsOthers
@@ -53,11 +53,11 @@ module _ {Z : Type 0} where
     updated q false h =
         keeps (at q) (λ x y t. ap (λ n. is_eq (R n y.items)) (tied q x.items t)) (λ x t. subst (λ n. is_eq (R q n) ≡ false) (tied k x.items t) h) ∙ answers m es q is
 
-  pub sets : (m : Values) (es new : Entries Z) (k v : Text) → finite.from_entries (texts_of es) ≡ m → lookup (at k) new ≡ Some v
+  pub sets : (m : Vars) (es new : Entries Z) (k v : Text) → finite.from_entries (texts_of es) ≡ m → lookup (at k) new ≡ Some v
       → KeepsOthers (eq_by_cmp (λ x y. R x.items y.items)) (at k) es new → finite.from_entries (texts_of new) ≡ finite.insert m k v
   sets m es new k v is there keeps = alike _ new (λ q. updated m es new k (Some v) is there keeps q (is_eq (R q k)) refl ∙ sym (get-insert nat_list_cmp_total m k v q))
 
-  pub unsets : (m : Values) (es new : Entries Z) (k : Text) → finite.from_entries (texts_of es) ≡ m → lookup (at k) new ≡ None
+  pub unsets : (m : Vars) (es new : Entries Z) (k : Text) → finite.from_entries (texts_of es) ≡ m → lookup (at k) new ≡ None
       → KeepsOthers (eq_by_cmp (λ x y. R x.items y.items)) (at k) es new → finite.from_entries (texts_of new) ≡ finite.remove m k
   unsets m es new k is there keeps = alike _ new (λ q. updated m es new k None is there keeps q (is_eq (R q k)) refl ∙ sym (get-remove nat_list_cmp_total m k q))
 
@@ -74,5 +74,5 @@ module _ {Z : Type 0} where
       ∙ rw (get-from_entries nat_list_cmp_total (texts_of es) e.0.items, absent e.0.items es rising.0) (ap (λ n. n + 1) (counted es rising.1) ∙ omega arith)
 
   -- how many variables a map with rising names has
-  pub counts : (m : Values) (es : Entries Z) → finite.from_entries (texts_of es) ≡ m → IsStrictlySortedBy (λ x y. R x.items y.items) (keys_of es) → length es ≡ finite.len m
-  counts m es is rising = sym (counted es rising) ∙ ap (λ (n : Values). finite.len n) is
+  pub counts : (m : Vars) (es : Entries Z) → finite.from_entries (texts_of es) ≡ m → IsStrictlySortedBy (λ x y. R x.items y.items) (keys_of es) → length es ≡ finite.len m
+  counts m es is rising = sym (counted es rising) ∙ ap (λ (n : Vars). finite.len n) is

@@ -12,7 +12,7 @@ use Rattle.exec2_parse.specs.Statements.{lines_in}
 use Rattle.exec2_parse.specs.declared.statement.Statement.{Statement}
 use Rattle.exec2_parse.specs.Procedures.{begins_with_trace, lines_of, number_of_long_line, procedure_of}
 use Rattle.exec2_parse.specs.declared.procedure.ProcFault.TheVariants.{LineTooLong, NotExec2, TooManyLines}
-use Rattle.cms_records.proofs.Reading.{length-records_at, records_are}
+use Rattle.cms_records.proofs.StoredRecords.{length-records_at, records_are}
 
 no_trace : (records : List Text) → begins_with_trace (lines_of records) ≡ false → procedure_of records ≡ Err NotExec2
 unfolding procedure_of

@@ -6,11 +6,11 @@ use Rattle.std.specs.FinMap.{FinMap, get}
 use Rattle.cms_text.specs.Texts.{Text}
 
 -- a finite map from names, which are written here without their ampersand, to values
-abbrev pub Values : Type 0
-Values = FinMap (slice_cmp nat_cmp) Text
+abbrev pub Vars : Type 0
+Vars = FinMap (slice_cmp nat_cmp) Text
 
 -- the value of a variable, empty where it was never set
-abbrev pub value_of : Values → Text → Text
+abbrev pub value_of : Vars → Text → Text
 value_of vars name = unwrap_or (get vars name) []
 
 -- the names and values that a program's map holds, in its order

@@ -17,9 +17,10 @@ pub struct Vars {
 impl Model for Vars {
     ghost use Rattle.std.specs.FinMap as finite;
     ghost use Rattle.std.specs.Coded.{coded_ℕ, coded_list};
-    ghost use Rattle.exec2_parse.specs.Variables.{texts_of, Values};
+    ghost use Rattle.exec2_parse.specs.Variables as spec;
+    ghost use Rattle.exec2_parse.specs.Variables.{texts_of};
 
-    ghost Value = { Values };
+    ghost Value = { spec.Vars };
 
     ghost coded = { finite.code (coded_list coded_ℕ) (coded_list coded_ℕ) };
 

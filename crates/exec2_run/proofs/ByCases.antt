@@ -6,7 +6,7 @@ use Rattle.exec2_run.specs.Cases.{Runs, RunsAreSteps, StepsAreRuns, nothing, ass
 use Rattle.exec2_run.specs.Destinations.{sent, sent_to}
 use Rattle.exec2_parse.specs.Kinds.{guards, kind_of}
 use Rattle.exec2_run.specs.Outputs.{issued}
-use Rattle.exec2_run.specs.State.{Procedure, Step, still}
+use Rattle.exec2_run.specs.State.{Exec, Step, still}
 use Rattle.exec2_run.specs.Steps.{run_by, run_control, run_kind}
 use Rattle.exec2_run.specs.declared.destination.Destination.{Destination}
 use Rattle.exec2_run.specs.declared.destination.Destination.TheVariants.{Cms, Extension}
@@ -18,16 +18,16 @@ use Rattle.exec2_run.proofs.ByLabels.{calls_are, calls_of, goes_are, goes_of}
 
 -- ---- statements
 
-moved : (s : Procedure) (words : List Text) (k : Kind) (m : Step) → kind_of words ≡ k → m ≡ run_by k s words → m ≡ run_kind s words
+moved : (s : Exec) (words : List Text) (k : Kind) (m : Step) → kind_of words ≡ k → m ≡ run_by k s words → m ≡ run_kind s words
 unfolding run_kind
 moved s words k m is e = e ∙ ap (λ (x : Kind). run_by x s words) (sym is)
 
 -- a command goes to CMS, or to the extension that &PRESUME named
-to_cms : (s : Procedure) (words : List Text) → s.destination ≡ Cms → sent s words ≡ issued s words
+to_cms : (s : Exec) (words : List Text) → s.destination ≡ Cms → sent s words ≡ issued s words
 unfolding sent issued
 to_cms s words goes = rw goes refl
 
-to_extension : (s : Procedure) (words : List Text) (word : Text) → s.destination ≡ Extension word → sent s words ≡ sent_to word s words
+to_extension : (s : Exec) (words : List Text) (word : Text) → s.destination ≡ Extension word → sent s words ≡ sent_to word s words
 unfolding sent
 to_extension s words word goes = rw goes refl
 
@@ -57,7 +57,7 @@ runs_are_steps s words m (return_ is e) = moved s words (kind.Control control.Re
 runs_are_steps s words m (error is e) = moved s words (kind.Control control.Error) m is e
 runs_are_steps s words m (exit is e) = moved s words (kind.Control control.Exit) m is e
 
-by_control : (s : Procedure) (words : List Text) (c : Control) → kind_of words ≡ kind.Control c → guards (kind.Control c) ≡ false
+by_control : (s : Exec) (words : List Text) (c : Control) → kind_of words ≡ kind.Control c → guards (kind.Control c) ≡ false
     → Runs s words (run_by (kind.Control c) s words)
 unfolding run_control
 by_control s words control.Trace is not_if = trace is refl
@@ -80,12 +80,12 @@ by_control s words control.Return is not_if = return_ is refl
 by_control s words control.Error is not_if = error is refl
 by_control s words control.Exit is not_if = exit is refl
 
-as_command : (s : Procedure) (words : List Text) (d : Destination) → s.destination ≡ d → kind_of words ≡ kind.Command
+as_command : (s : Exec) (words : List Text) (d : Destination) → s.destination ≡ d → kind_of words ≡ kind.Command
     → Runs s words (still s (sent s words))
 as_command s words Cms goes is = command is goes (ap (still s) (to_cms s words goes))
 as_command s words (Extension word) goes is = presumed_command is goes (ap (still s) (to_extension s words word goes))
 
-by_kind : (s : Procedure) (words : List Text) (k : Kind) → kind_of words ≡ k → guards k ≡ false → Runs s words (run_by k s words)
+by_kind : (s : Exec) (words : List Text) (k : Kind) → kind_of words ≡ k → guards k ≡ false → Runs s words (run_by k s words)
 by_kind s words kind.Nothing is not_if = nothing is refl
 by_kind s words kind.Assignment is not_if = assignment is refl
 by_kind s words (kind.Control c) is not_if = by_control s words c is not_if

@@ -7,7 +7,7 @@ use Rattle.exec2_run.specs.Calls.{called, called_by, entered}
 use Rattle.exec2_run.specs.Cases.{Become, Calls, Goes, HasNone, IsFirst, Names, Search, above, below, calls, calls_no_label, calls_no_line, calls_nowhere, calls_too_long, goes, goes_nowhere, goes_to_no_label, goes_to_no_line, goes_with_more, nowhere}
 use Rattle.exec2_run.specs.Given.{seen}
 use Rattle.exec2_run.specs.Jumps.{gone, gone_by, label_from, label_place, or_else}
-use Rattle.exec2_run.specs.State.{Procedure, Step}
+use Rattle.exec2_run.specs.State.{Exec, Step}
 use Rattle.exec2_run.specs.Values.{ended, operands, whole}
 use Rattle.exec2_parse.specs.Words.{is_label}
 use Rattle.exec2_run.specs.declared.fault.Fault.TheVariants.{BadStatement, NoLabel}
@@ -31,13 +31,13 @@ none_is label lines from none = cases (label_from label from lines) (searches la
     cases None other = refl
     cases (Some j) other = absurd (none j other.after other.labels)
 
-names_are : (s : Procedure) (label : Text) (o : Option ℕ) → Names s label o → label_place label s.next s.lines ≡ o
+names_are : (s : Exec) (label : Text) (o : Option ℕ) → Names s label o → label_place label s.next s.lines ≡ o
 names_are s label (Some k) (below first) = rw (first_is label s.lines s.next k first) refl
 names_are s label (Some k) (above none first) = rw (none_is label s.lines s.next none, first_is label s.lines 0 k first) refl
 names_are s label None (nowhere none) =
     rw (none_is label s.lines s.next (λ j after l. none j (omega arith) l), none_is label s.lines 0 none) refl
 
-names_of : (s : Procedure) (label : Text) → Names s label (label_place label s.next s.lines)
+names_of : (s : Exec) (label : Text) → Names s label (label_place label s.next s.lines)
 names_of s label = by (label_from label s.next s.lines) (searches label s.lines s.next) (label_from label 0 s.lines) (searches label s.lines 0)
   where
     by : (a : Option ℕ) → Search label s.lines s.next a → (b : Option ℕ) → Search label s.lines 0 b → Names s label (or_else a b)
@@ -47,7 +47,7 @@ names_of s label = by (label_from label s.next s.lines) (searches label s.lines 
 
 -- ---- &GOTO
 
-pub goes_are : {s : Procedure} {words : List Text} {m : Step} → Goes s words m → m ≡ gone s words
+pub goes_are : {s : Exec} {words : List Text} {m : Step} → Goes s words m → m ≡ gone s words
 unfolding gone
 goes_are {s} (goes {label} {k} become is to e) = rw (become, is, names_are s label (Some k) to) e
 goes_are (goes_nowhere become e) = rw become e
@@ -55,7 +55,7 @@ goes_are (goes_to_no_label become is e) = rw (become, is) e
 goes_are {s} (goes_to_no_line {label} become is to e) = rw (become, is, names_are s label None to) e
 goes_are {s} (goes_with_more {label} {k = k} become is to more e) = rw (become, is, names_are s label (Some k) to, more) e
 
-pub goes_of : (s : Procedure) (words : List Text) → Goes s words (gone s words)
+pub goes_of : (s : Exec) (words : List Text) → Goes s words (gone s words)
 unfolding gone
 goes_of s words = cases (operands (seen s) words).words (operands (seen s) words).is_cut refl
   where
@@ -77,7 +77,7 @@ goes_of s words = cases (operands (seen s) words).words (operands (seen s) words
 
 -- ---- &CALL
 
-pub calls_are : {s : Procedure} {words : List Text} {m : Step} → Calls s words m → m ≡ called s words
+pub calls_are : {s : Exec} {words : List Text} {m : Step} → Calls s words m → m ≡ called s words
 unfolding called
 calls_are {s} (calls {label} {k = k} become is to e) = rw (become, is, names_are s label (Some k) to) e
 calls_are (calls_nowhere become e) = rw become e
@@ -85,7 +85,7 @@ calls_are (calls_no_label become is e) = rw (become, is) e
 calls_are {s} (calls_no_line {label} become is to e) = rw (become, is, names_are s label None to) e
 calls_are {s} (calls_too_long {label} {k = k} become is to e) = rw (become, is, names_are s label (Some k) to) e
 
-pub calls_of : (s : Procedure) (words : List Text) → Calls s words (called s words)
+pub calls_of : (s : Exec) (words : List Text) → Calls s words (called s words)
 unfolding called
 calls_of s words = cases (operands (seen s) words).words (operands (seen s) words).is_cut refl
   where

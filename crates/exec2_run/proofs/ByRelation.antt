@@ -16,14 +16,14 @@ use Rattle.exec2_run.specs.Readings.{taken_for}
 use Rattle.exec2_run.specs.Relation.{Action, Begins, BeginsThen, some_left, none_left, forever, while, until, until_fault, Settle, Turn, GiveLine, GiveCode, RefuseStack, Executes, Guards, Moved, MovedAreSteps, Moves, Settling, StepsAreMoved, moved, other, short, holds, fails, if_fault, runs, faults, none, again, over, faulty, inside, jumped_out, due, next_line, no_line, test_fault, error_action, next_statement, past_last, for_arguments, for_variables, for_text, for_nothing, good, starts, no_action, in_action, stack_full}
 use Rattle.exec2_run.specs.Steps.{Takes, action_words, at_line, at_next, code_taken, compared, fault_of_if, guarded, if_holds, incomplete, is_due, is_running, line_taken, run, run_kind, settled, turned, with_next, words_at}
 use Rattle.exec2_run.specs.declared.exec.ErrorAction.TheVariants.{Idle, Due, Running}
-use Rattle.exec2_run.specs.State.{Procedure}
+use Rattle.exec2_run.specs.State.{Exec}
 use Rattle.exec2_run.specs.declared.fault.Fault.{Fault}
 use Rattle.exec2_run.specs.declared.loops.Loop.{Loop}
 use Rattle.exec2_run.specs.declared.loops.Passes.{Passes}
 use Rattle.exec2_run.specs.declared.loops.Passes.TheVariants.{Left, Forever, While, Until}
 use Rattle.exec2_run.specs.declared.loops.Test.{Test}
-use Rattle.exec2_run.specs.declared.reading.Reading.{Reading}
-use Rattle.exec2_run.specs.declared.reading.Reading.TheVariants as reading
+use Rattle.exec2_run.specs.declared.asked_line.Reading.{Reading}
+use Rattle.exec2_run.specs.declared.asked_line.Reading.TheVariants as reading
 use Rattle.exec2_run.specs.declared.want.Want.TheVariants.{Next, Ended}
 use Rattle.exec2_run.proofs.ByCases.{runs_are_steps, steps_are_runs}
 
@@ -95,17 +95,17 @@ no_if statement (if_fault is h e) given = let same = sym e ∙ given in absurd (
 
 -- ---- a statement
 
-executes_are : {s : Procedure} {words : List Text} {m : Moved} → Executes s words m → m ≡ at_line s.line (run s words)
+executes_are : {s : Exec} {words : List Text} {m : Moved} → Executes s words m → m ≡ at_line s.line (run s words)
 unfolding run
 executes_are {s} (runs {statement} {step} g r e) = rw (sym (guards_are g)) (e ∙ ap (at_line s.line) (runs_are_steps s statement step r))
 executes_are (faults g e) = rw (sym (guards_are g)) e
 
-executed : (s : Procedure) (words : List Text) (r : Result (List Text) Fault) → Guards (seen s) words r
+executed : (s : Exec) (words : List Text) (r : Result (List Text) Fault) → Guards (seen s) words r
     → Executes s words (at_line s.line (r >>= (λ statement. run_kind s statement)))
 executed s words (Ok statement) g = runs g (steps_are_runs s statement (no_if statement g refl)) refl
 executed s words (Err fault) g = faults g refl
 
-executes_of : (s : Procedure) (words : List Text) → Executes s words (at_line s.line (run s words))
+executes_of : (s : Exec) (words : List Text) → Executes s words (at_line s.line (run s words))
 unfolding run
 executes_of s words = executed s words (guarded (seen s) words) (guards_of (seen s) words)
 
@@ -134,7 +134,7 @@ begins_of names Forever = forever refl
 begins_of names (While test) = while refl
 begins_of names (Until test) = tested names test (test_holds names test) refl
 
-settling_are : {moment : Moment} {s : Procedure} {loops : List Loop} {m : Result Procedure (Fault × ℕ)} → Settling moment s loops m → m ≡ settled_from moment s loops
+settling_are : {moment : Moment} {s : Exec} {loops : List Loop} {m : Result Exec (Fault × ℕ)} → Settling moment s loops m → m ≡ settled_from moment s loops
 unfolding settled_from
 settling_are (none e) = e
 settling_are (again at p e) = rw (at, sym (begins_are p)) e
@@ -143,20 +143,20 @@ settling_are (faulty at p e) = rw (at, sym (begins_are p)) e
 settling_are (inside at within e) = rw (at, within) e
 settling_are (jumped_out at out r) = rw (at, out) (settling_are r)
 
-passed : (moment : Moment) (s : Procedure) (loop : Loop) (loops : List Loop) → Settling moment s loops (settled_from moment s loops)
+passed : (moment : Moment) (s : Exec) (loop : Loop) (loops : List Loop) → Settling moment s loops (settled_from moment s loops)
     → (s.next == loop.past) ≡ true → (r : Result Bool Fault) → BeginsThen moment s loop r
     → Settling moment s (loop ∷ loops) (looping.passed r loop.line (looping.again s loop loops) (settled_from moment s loops))
 passed moment s loop loops outer at (Ok true) p = again at p refl
 passed moment s loop loops outer at (Ok false) p = over at p outer
 passed moment s loop loops outer at (Err fault) p = faulty at p refl
 
-elsewhere : (moment : Moment) (s : Procedure) (loop : Loop) (loops : List Loop) → Settling moment s loops (settled_from moment s loops)
+elsewhere : (moment : Moment) (s : Exec) (loop : Loop) (loops : List Loop) → Settling moment s loops (settled_from moment s loops)
     → (s.next == loop.past) ≡ false → (b : Bool) → has loop s.next ≡ b
     → Settling moment s (loop ∷ loops) (cond b (Ok (record s { loops = loop ∷ loops })) (settled_from moment s loops))
 elsewhere moment s loop loops outer at true within = inside at within refl
 elsewhere moment s loop loops outer at false out = jumped_out at out outer
 
-settling_of : (moment : Moment) (s : Procedure) (loops : List Loop) → Settling moment s loops (settled_from moment s loops)
+settling_of : (moment : Moment) (s : Exec) (loops : List Loop) → Settling moment s loops (settled_from moment s loops)
 unfolding settled_from
 settling_of moment s [] = none refl
 settling_of moment s (loop ∷ loops) = cases (settling_of moment s loops) (s.next == loop.past) refl
@@ -169,7 +169,7 @@ settling_of moment s (loop ∷ loops) = cases (settling_of moment s loops) (s.ne
 
 -- ---- the calls
 
-moves_are : {old : Procedure} {moment : Moment} {a : Action} {m : Moved} → Moves old moment a m → m ≡ moved old moment a
+moves_are : {old : Exec} {moment : Moment} {a : Action} {m : Moved} → Moves old moment a m → m ≡ moved old moment a
 unfolding settled turned line_taken taken_for code_taken
 moves_are (due is e) = rw is e
 moves_are (next_line is r has e) = rw (is, sym (settling_are r), has) e
@@ -188,22 +188,22 @@ moves_are (no_action differs lacks e) = rw (differs, lacks) e
 moves_are (in_action differs some started e) = rw (differs, some, started) e
 moves_are (stack_full e) = e
 
-at_end : (old : Procedure) (moment : Moment) (new : Procedure) → is_due old.action ≡ false → Settling moment old old.loops (Ok new) → (b : Bool)
+at_end : (old : Exec) (moment : Moment) (new : Exec) → is_due old.action ≡ false → Settling moment old old.loops (Ok new) → (b : Bool)
     → nat_lt new.next (length new.lines) ≡ b → Moves old moment Settle (Ok (new, cond b Next (Ended (pos 0))))
 at_end old moment new is r true has = next_line is r has refl
 at_end old moment new is r false has = no_line is r has refl
 
-found : (old : Procedure) (moment : Moment) → is_due old.action ≡ false → (r : Result Procedure (Fault × ℕ)) → Settling moment old old.loops r
+found : (old : Exec) (moment : Moment) → is_due old.action ≡ false → (r : Result Exec (Fault × ℕ)) → Settling moment old old.loops r
     → Moves old moment Settle (r >>= (λ t. Ok (t, at_next t)))
 found old moment is (Ok new) r = at_end old moment new is r (nat_lt new.next (length new.lines)) refl
 found old moment is (Err failure) r = test_fault is r refl
 
-settles : (old : Procedure) (moment : Moment) (b : Bool) → is_due old.action ≡ b
+settles : (old : Exec) (moment : Moment) (b : Bool) → is_due old.action ≡ b
     → Moves old moment Settle (cond b (Ok (old, Next)) (settled_from moment old old.loops >>= (λ t. Ok (t, at_next t))))
 settles old moment true is = due is refl
 settles old moment false is = found old moment is (settled_from moment old old.loops) (settling_of moment old old.loops)
 
-taken : (old : Procedure) (moment : Moment) (given : Text) (r : Reading) → old.reading ≡ r
+taken : (old : Exec) (moment : Moment) (given : Text) (r : Reading) → old.reading ≡ r
     → Moves old moment (GiveLine given) (with_next old (taken_for r (record old { reading = reading.Nothing }) given))
 unfolding taken_for
 taken old moment given reading.Nothing is = for_nothing is refl
@@ -211,14 +211,14 @@ taken old moment given reading.Arguments is = for_arguments is refl
 taken old moment given (reading.Variables names) is = for_variables is refl
 taken old moment given (reading.Text name) is = for_text is refl
 
-coded : (old : Procedure) (moment : Moment) (code : ℤ) (a b c : Bool) → int_eq code (pos 0) ≡ a → is_some old.error ≡ b → is_running old.action ≡ c
+coded : (old : Exec) (moment : Moment) (code : ℤ) (a b c : Bool) → int_eq code (pos 0) ≡ a → is_some old.error ≡ b → is_running old.action ≡ c
     → Moves old moment (GiveCode code) (Ok (record old { code = code; action = cond (not a && (b && not c)) Due Idle }, Next))
 coded old moment code true b c is some started = good is refl
 coded old moment code false true true differs some started = in_action differs some started refl
 coded old moment code false true false differs some idle = starts differs some idle refl
 coded old moment code false false c differs lacks idle = no_action differs lacks refl
 
-turns : (old : Procedure) (moment : Moment) → Moves old moment Turn (turned moment old)
+turns : (old : Exec) (moment : Moment) → Moves old moment Turn (turned moment old)
 unfolding turned
 turns old moment = by_action (is_due old.action) refl (nat_lt old.next (length old.lines)) refl
   where
@@ -233,7 +233,7 @@ turns old moment = by_action (is_due old.action) refl (nat_lt old.next (length o
         next_statement is has (executes_of (record old { action = Idle; moment = moment; next = old.next + 1; line = old.next + 1 }) (words_at old))
     by_action false is false has = past_last is has (executes_of (record old { action = Idle; moment = moment }) (words_at old))
 
-moves_of : (old : Procedure) (moment : Moment) (a : Action) → Moves old moment a (moved old moment a)
+moves_of : (old : Exec) (moment : Moment) (a : Action) → Moves old moment a (moved old moment a)
 unfolding settled line_taken code_taken
 moves_of old moment Settle = settles old moment (is_due old.action) refl
 moves_of old moment Turn = turns old moment

@@ -4,7 +4,7 @@ use Rattle.std.proofs.lemmas.Bool.{eq-eqb, ne_eqb}
 use Rattle.std.specs.Prelude.{Some, slice_get, Ok, Err}
 use Rattle.cms_fields.specs.declared.time.Moment.{Moment}
 use Rattle.exec2_run.specs.Loops.{begins, has, left_open, settled_from}
-use Rattle.exec2_run.specs.State.{Procedure}
+use Rattle.exec2_run.specs.State.{Exec}
 use Rattle.exec2_run.specs.declared.fault.Fault.{Fault}
 use Rattle.exec2_run.specs.declared.loops.Loop.{Loop}
 use Rattle.exec2_run.proofs.Places.{from_place}
@@ -13,12 +13,12 @@ pub or_else : {A B C : Type 0} → A ⊎ B → (B → C) → A ⊎ C
 or_else (inl a) f = inl a
 or_else (inr b) f = inr (f b)
 
-pub all_over : (moment : Moment) (s : Procedure) (xs : List Loop) (k n : ℕ) → settled_from moment s xs ≡ settled_from moment s (drop k xs) → drop k xs ≡ [] → drop n xs ≡ []
+pub all_over : (moment : Moment) (s : Exec) (xs : List Loop) (k n : ℕ) → settled_from moment s xs ≡ settled_from moment s (drop k xs) → drop k xs ≡ [] → drop n xs ≡ []
     → settled_from moment s xs ≡ Ok (left_open s false (drop n xs))
 unfolding settled_from
 all_over moment s xs k n here none also = here ∙ ap (settled_from moment s) none ∙ rw also refl
 
-module _ (moment : Moment) (s : Procedure) (xs : List Loop) (k : ℕ) (top : Loop) (here : Some top ≡ slice_get xs k) where
+module _ (moment : Moment) (s : Exec) (xs : List Loop) (k : ℕ) (top : Loop) (here : Some top ≡ slice_get xs k) where
   pub more_passes : s.next ≡ top.past → begins moment s top ≡ Ok true → settled_from moment s (drop k xs) ≡ Ok (left_open s true (drop k xs))
   unfolding settled_from
   more_passes at b = rw (from_place xs k top here, eq-eqb s.next top.past at, b) refl

@@ -9,7 +9,7 @@ use Rattle.exec2_run.specs.Faults.{Does}
 use Rattle.exec2_run.specs.Given.{seen}
 use Rattle.exec2_run.specs.Loops.{end_of_range, first_of, looped, opened, passes, range_looped}
 use Rattle.exec2_run.specs.Values.{operands}
-use Rattle.exec2_run.specs.State.{Procedure}
+use Rattle.exec2_run.specs.State.{Exec}
 use Rattle.exec2_run.specs.declared.fault.Fault.{Fault}
 use Rattle.exec2_run.specs.declared.loops.Passes.{Passes}
 use Rattle.exec2_run.specs.declared.values.Operands.{Operands}
@@ -17,18 +17,18 @@ use Rattle.exec2_run.specs.declared.values.Operands.{Operands}
 pub does_as : {S A : Type 0} (d e : Result (S × A) Fault) (old new : S) (r : Result A Fault) → d ≡ e → Does e old new r → Does d old new r
 does_as {S} {A} d e old new r same h = subst (λ (x : Result (S × A) Fault). Does x old new r) (sym same) h
 
-pub range_is : (s : Procedure) (names : Binding) (range : Text) (words : List Text) (past : ℕ) (often : Passes) → names ≡ seen s → end_of_range s range ≡ Ok past
+pub range_is : (s : Exec) (names : Binding) (range : Text) (words : List Text) (past : ℕ) (often : Passes) → names ≡ seen s → end_of_range s range ≡ Ok past
     → passes names words ≡ Ok often → range_looped s range words ≡ opened s past often
 range_is s names range words past often is e g = rw (← is, e, g) refl
 
-pub loop_is : (s : Procedure) (names : Binding) (words : List Text) (value text : Text) (behind : List Text) → names ≡ seen s → first_of names words ≡ Ok (value, behind)
+pub loop_is : (s : Exec) (names : Binding) (words : List Text) (value text : Text) (behind : List Text) → names ≡ seen s → first_of names words ≡ Ok (value, behind)
     → text ≡ value → looped s words ≡ range_looped s text behind
 unfolding looped
 loop_is s names words value text behind is e same =
     let first : first_of (seen s) words ≡ Ok (value, behind) = subst (λ (n : Binding). first_of n words ≡ Ok (value, behind)) is e in
     rw first (ap (λ (t : Text). range_looped s t behind) (sym same))
 
-pub call_is : (s : Procedure) (names : Binding) (words slice : List Text) (label : Text) (o : Operands) → names ≡ seen s → o ≡ operands names words → slice ≡ o.words → 1 ≤ length slice
+pub call_is : (s : Exec) (names : Binding) (words slice : List Text) (label : Text) (o : Operands) → names ≡ seen s → o ≡ operands names words → slice ≡ o.words → 1 ≤ length slice
     → label ≡ get_or slice 0 label → called s words ≡ called_at s label (take (length slice - 1) (drop 1 slice)) o.is_cut
 unfolding called
 call_is s names words [] label o seen_is is same h at = absurd (omega (arith, h))

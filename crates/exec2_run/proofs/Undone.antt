@@ -8,7 +8,7 @@ use Rattle.std.specs.Cmp.Lexicographic.{nat_list_cmp_total}
 use Rattle.std.specs.FinMap.{get, insert, remove, get-insert, get-remove, same_map, slice_cmp-IsAntisymmetric, nat_cmp-IsAntisymmetric}
 use Rattle.cms_fields.specs.Steps.{◌>>=◌}
 use Rattle.cms_text.specs.Texts.{Text}
-use Rattle.exec2_parse.specs.Variables.{Values}
+use Rattle.exec2_parse.specs.Variables.{Vars}
 use Rattle.exec2_parse.proofs.Finite.{R, tied}
 use Rattle.exec2_run.specs.Given.{is_argument, table_of}
 use Rattle.exec2_run.specs.Variables.{each_set, first_or_empty, has_room, taken_back, with_table, with_value}
@@ -16,7 +16,7 @@ use Rattle.exec2_run.specs.declared.variables.Variables.{Variables}
 use Rattle.exec2_run.specs.declared.fault.Fault.{Fault}
 use Rattle.exec2_run.specs.declared.fault.Fault.TheVariants.{Memory, TooManyVariables}
 
-removed_again : (m : Values) (k v : Text) → get m k ≡ None → remove (insert m k v) k ≡ m
+removed_again : (m : Vars) (k v : Text) → get m k ≡ None → remove (insert m k v) k ≡ m
 removed_again m k v none = same_map nat_list_cmp_total (slice_cmp-IsAntisymmetric nat_cmp-IsAntisymmetric) _ _ (λ q.
     get-remove nat_list_cmp_total (insert m k v) k q ∙ cases q (is_eq (R q k)) refl)
   where
@@ -24,7 +24,7 @@ removed_again m k v none = same_map nat_list_cmp_total (slice_cmp-IsAntisymmetri
     cases q true h = sym (subst (λ (t : Text). get m t ≡ None) (sym (tied q k h)) none)
     cases q false h = get-insert nat_list_cmp_total m k v q ∙ ap (λ b. cond b (Some v) (get m q)) h
 
-set_again : (m : Values) (k v x : Text) → get m k ≡ Some x → insert (insert m k v) k x ≡ m
+set_again : (m : Vars) (k v x : Text) → get m k ≡ Some x → insert (insert m k v) k x ≡ m
 set_again m k v x some = same_map nat_list_cmp_total (slice_cmp-IsAntisymmetric nat_cmp-IsAntisymmetric) _ _ (λ q.
     get-insert nat_list_cmp_total (insert m k v) k x q ∙ cases q (is_eq (R q k)) refl)
   where
@@ -53,7 +53,7 @@ set_table v w name value e = cases (has_room v name) e
 pub undone : (v w : Variables) (name value : Text) → with_value v name value ≡ Ok w → taken_back w name (get (table_of v name) name) ≡ v
 undone v w name value e = rw (set_table v w name value e) (taken v name value (is_argument name) refl (get (table_of v name) name) refl)
 
-there : (m : Values) (k v : Text) → IsSome (get (insert m k v) k)
+there : (m : Vars) (k v : Text) → IsSome (get (insert m k v) k)
 there m k v = rw (get-insert nat_list_cmp_total m k v k, (eq_by_cmp_equiv nat_list_cmp_total).refl k) refl
 
 known : (v : Variables) (name value : Text) (b : Bool) → is_argument name ≡ b → IsSome (get (table_of (with_table v name (insert (table_of v name) name value)) name) name)

@@ -14,7 +14,7 @@ use Rattle.exec2_run.specs.Given.{seen}
 use Rattle.exec2_run.specs.Faults.{of_function, with_fault}
 use Rattle.exec2_run.specs.Values.{arguments, operands, whole}
 use Rattle.exec2_run.specs.Variables.{set_to, target}
-use Rattle.exec2_run.specs.State.{Procedure, Step}
+use Rattle.exec2_run.specs.State.{Exec, Step}
 use Rattle.exec2_run.specs.declared.values.Operands.{Operands}
 use Rattle.exec2_run.specs.declared.assignment.Sign.{Sign}
 use Rattle.exec2_run.specs.declared.assignment.Sign.TheVariants.{Plus, Minus}
@@ -203,18 +203,18 @@ right_side names words = value_by (function_in words) names words
 -- ---- the statement: a target, an equal sign, and a right side
 
 -- a variable has the value of the right side
-abbrev pub named : Procedure → Text → List Text → Step
+abbrev pub named : Exec → Text → List Text → Step
 named s name words = do
   v ← right_side (seen s) words
   set_to s name v
 
 -- the target has the value of the right side
-abbrev pub assigned_to : Procedure → Text → List Text → Step
+abbrev pub assigned_to : Exec → Text → List Text → Step
 assigned_to s name words = do
   n ← target (seen s) name
   named s n words
 
 -- an assignment
-unfoldable pub assigned : Procedure → List Text → Step
+unfoldable pub assigned : Exec → List Text → Step
 assigned s (name ∷ sign ∷ words) = assigned_to s name words
 assigned s words = Err BadStatement

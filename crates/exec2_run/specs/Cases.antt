@@ -11,7 +11,7 @@ use Rattle.exec2_parse.specs.Kinds.{is_if, kind_of}
 use Rattle.exec2_run.specs.Loops.{looped}
 use Rattle.exec2_run.specs.Outputs.{issued, stacked, stacked_block, typed, typed_block}
 use Rattle.exec2_run.specs.Readings.{args_given, read}
-use Rattle.exec2_run.specs.State.{Procedure, Step, still}
+use Rattle.exec2_run.specs.State.{Exec, Step, still}
 use Rattle.exec2_run.specs.Steps.{exited, run_kind, with_error}
 use Rattle.exec2_run.specs.Values.{ended, missing, operands}
 use Rattle.exec2_parse.specs.Words.{has_label, is_label}
@@ -51,17 +51,17 @@ FindsFirst = (label : Text) (lines : List Text) (from : ℕ) → Search label li
 
 -- the line that a label of &GOTO or &CALL names: the first with it from the next line to the end, and without one there the first
 -- from the top
-pub data Names (s : Procedure) (label : Text) : Option ℕ → Type 0 where
+pub data Names (s : Exec) (label : Text) : Option ℕ → Type 0 where
   below : {k : ℕ} → IsFirst label s.lines s.next k → Names s label (Some k)
   above : {k : ℕ} → HasNone label s.lines s.next → IsFirst label s.lines 0 k → Names s label (Some k)
   nowhere : HasNone label s.lines 0 → Names s label None
 
 -- what the words become, each in full
-abbrev pub Become : Procedure → List Text → List Text → Bool → Type 0
+abbrev pub Become : Exec → List Text → List Text → Bool → Type 0
 Become s words values is_cut = operands (seen s) words ≡ record { words = values; is_cut = is_cut }
 
 -- &GOTO -label: the line that the label names is next
-pub data Goes (s : Procedure) (words : List Text) (m : Step) : Type 0 where
+pub data Goes (s : Exec) (words : List Text) (m : Step) : Type 0 where
   goes : {label : Text} {k : ℕ} → Become s words (label ∷ []) false → is_label label ≡ true → Names s label (Some k)
       → m ≡ Ok (record s { next = k }, Next) → Goes s words m
   -- its faults from the left: no word, no label, no line with it, a word behind it
@@ -74,7 +74,7 @@ pub data Goes (s : Procedure) (words : List Text) (m : Step) : Type 0 where
       → is_label label ≡ true → Names s label (Some k) → ended others is_cut ≡ Err fault → m ≡ Err fault → Goes s words m
 
 -- &CALL -label words: the same line is next, once what is to be kept was put aside
-pub data Calls (s : Procedure) (words : List Text) (m : Step) : Type 0 where
+pub data Calls (s : Exec) (words : List Text) (m : Step) : Type 0 where
   calls : {label : Text} {values : List Text} {k : ℕ} → Become s words (label ∷ values) false → is_label label ≡ true
       → Names s label (Some k) → m ≡ entered s k values → Calls s words m
   -- its faults from the left: no word, no label, no line with it, a word that is too long
@@ -90,7 +90,7 @@ pub data Calls (s : Procedure) (words : List Text) (m : Step) : Type 0 where
 
 -- the statement `words`, which is no &IF, does the step m in the state s, whose next line is the one behind its own; what an &IF comes
 -- to is said by `Guards` (Relation), and no case is here for it
-pub data Runs (s : Procedure) (words : List Text) (m : Step) : Type 0 where
+pub data Runs (s : Exec) (words : List Text) (m : Step) : Type 0 where
   -- no words: nothing
   nothing : kind_of words ≡ kind.Nothing → m ≡ Ok (s, Next) → Runs s words m
   -- a name, an equal sign and a right side
@@ -139,8 +139,8 @@ pub data Runs (s : Procedure) (words : List Text) (m : Step) : Type 0 where
 
 -- the relation says no more than the function that computes it, and no less
 abbrev pub RunsAreSteps : Type 0
-RunsAreSteps = (s : Procedure) (words : List Text) (m : Step) → Runs s words m → m ≡ run_kind s words
+RunsAreSteps = (s : Exec) (words : List Text) (m : Step) → Runs s words m → m ≡ run_kind s words
 
 -- the function that runs a statement that is no &IF says what the relation says
 abbrev pub StepsAreRuns : Type 0
-StepsAreRuns = (s : Procedure) (words : List Text) → is_if words ≡ false → Runs s words (run_kind s words)
+StepsAreRuns = (s : Exec) (words : List Text) → is_if words ≡ false → Runs s words (run_kind s words)

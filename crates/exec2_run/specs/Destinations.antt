@@ -5,7 +5,7 @@ use Rattle.cms_text.specs.Texts.{Text, is_keyword}
 use Rattle.exec2_run.specs.Given.{seen}
 use Rattle.exec2_parse.specs.Kinds.{name_of}
 use Rattle.exec2_run.specs.Outputs.{no_words}
-use Rattle.exec2_run.specs.State.{Procedure, Step}
+use Rattle.exec2_run.specs.State.{Exec, Step}
 use Rattle.exec2_run.specs.Values.{ended, joined, missing, operands, text, whole}
 use Rattle.exec2_run.specs.declared.destination.Destination.{Destination}
 use Rattle.exec2_run.specs.declared.destination.Destination.TheVariants.{Cms, Extension}
@@ -23,13 +23,13 @@ going_to Cms line = Command line
 going_to (Extension word) line = Sub word line
 
 -- a command: its text goes where &PRESUME said last
-unfoldable pub sent : Procedure → List Text → Result Want Fault
+unfoldable pub sent : Exec → List Text → Result Want Fault
 sent s words = do
   line ← text (seen s) words
   Ok (going_to s.destination line)
 
 -- the words' text, for the extension of a word
-abbrev pub sent_to : Text → Procedure → List Text → Result Want Fault
+abbrev pub sent_to : Text → Exec → List Text → Result Want Fault
 sent_to word s words = do
   line ← text (seen s) words
   Ok (Sub word line)
@@ -45,13 +45,13 @@ subcommanded_by (word ∷ words) is_cut = do
   Ok (Sub word line)
 
 -- &SUBCOMMAND
-unfoldable pub subcommanded : Procedure → List Text → Result Want Fault
+unfoldable pub subcommanded : Exec → List Text → Result Want Fault
 subcommanded s words = subcommanded_by (operands (seen s) words).words (operands (seen s) words).is_cut
 
 -- ---- &PRESUME
 
 -- &COMMAND and nothing behind it: CMS
-abbrev pub cms_named : Procedure → List Text → Result Destination Fault
+abbrev pub cms_named : Exec → List Text → Result Destination Fault
 cms_named s words = do
   no_words s words
   Ok Cms
@@ -64,11 +64,11 @@ extension_named_by (word ∷ others) is_cut = do
   Ok (Extension word)
 
 -- the extension that the words behind &SUBCOMMAND name
-unfoldable pub extension_named : Procedure → List Text → Result Destination Fault
+unfoldable pub extension_named : Exec → List Text → Result Destination Fault
 extension_named s words = extension_named_by (operands (seen s) words).words (operands (seen s) words).is_cut
 
 -- where &PRESUME sends commands: alone to CMS; its first word is read as it stands, unexpanded
-unfoldable pub destination_of : Procedure → List Text → Result Destination Fault
+unfoldable pub destination_of : Exec → List Text → Result Destination Fault
 destination_of s [] = Ok Cms
 destination_of s (word ∷ words) =
     if is_keyword (name_of control.Command) word then cms_named s words
@@ -76,7 +76,7 @@ destination_of s (word ∷ words) =
     else Err BadStatement)
 
 -- &PRESUME, alone, with &COMMAND, or with &SUBCOMMAND and a word
-unfoldable pub presumed : Procedure → List Text → Step
+unfoldable pub presumed : Exec → List Text → Step
 presumed s words = do
   destination ← destination_of s words
   Ok (record s { destination = destination }, Next)

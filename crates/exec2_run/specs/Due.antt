@@ -3,7 +3,7 @@ use Rattle.std.specs.Prelude.{List, [], slice_get}
 use Rattle.std.specs.Option.{option_map_or}
 use Rattle.cms_text.specs.Texts.{Text}
 use Rattle.exec2_parse.specs.Words.{statement_on}
-use Rattle.exec2_run.specs.State.{Procedure}
+use Rattle.exec2_run.specs.State.{Exec}
 use Rattle.exec2_run.specs.declared.exec.Due.{Due}
 use Rattle.exec2_run.specs.declared.exec.Due.TheVariants.{Action, Line}
 use Rattle.exec2_run.specs.declared.exec.Place.{Place}
@@ -14,10 +14,10 @@ words_due (Action words) = words
 words_due (Line lines place) = option_map_or statement_on (slice_get lines place) []
 
 -- where a procedure stands, and what the error action does there
-abbrev pub place_of : Procedure → Place
+abbrev pub place_of : Exec → Place
 place_of s = record { next = s.next; line = s.line; moment = s.moment; action = s.action }
 
 -- a procedure at another place
-abbrev pub at_place : Procedure → Place → Procedure
+abbrev pub at_place : Exec → Place → Exec
 at_place s place =
     record s { next = place.next; line = place.line; moment = place.moment; action = place.action }

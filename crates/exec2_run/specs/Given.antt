@@ -4,7 +4,7 @@ use Rattle.std.specs.List.{list_all}
 use Rattle.cms_fields.specs.declared.time.Moment.{Moment}
 use Rattle.cms_text.specs.Texts.{Text, is_blank, is_keyword, without_one_blank}
 use Rattle.exec2_parse.specs.Expansion.{Binding}
-use Rattle.exec2_parse.specs.Variables.{Values, value_of}
+use Rattle.exec2_parse.specs.Variables.{Vars, value_of}
 use Rattle.cms_text.specs.Numbers.{decimal_of, is_digit, written}
 use Rattle.exec2_run.specs.declared.calls.Call.{Call}
 use Rattle.exec2_run.specs.declared.given.AtStart.{AtStart}
@@ -13,7 +13,7 @@ use Rattle.exec2_run.specs.declared.given.Predefined.TheVariants as given
 use Rattle.exec2_run.specs.declared.given.Seen.{Seen}
 use Rattle.exec2_run.specs.declared.given.Standing.{Standing}
 use Rattle.exec2_run.specs.declared.variables.Variables.{Variables}
-use Rattle.exec2_run.specs.State.{Procedure}
+use Rattle.exec2_run.specs.State.{Exec}
 use Rattle.exec2_run.specs.declared.exec.FileName.{FileName}
 
 -- the names that are given
@@ -132,7 +132,7 @@ is_argument [] = false
 is_argument (first ∷ digits) = is_first_digit first && list_all is_digit digits
 
 -- the variables among which a name belongs
-abbrev pub table_of : Variables → Text → Values
+abbrev pub table_of : Variables → Text → Vars
 table_of v name = if is_argument name then v.arguments else v.others
 
 -- the value of a name: given, else as it was set
@@ -149,14 +149,14 @@ abbrev pub bound : Seen → Binding
 bound seen = known seen.start.now seen.standing seen.variables.now
 
 -- where a procedure stands, as the given names tell it
-abbrev pub standing_at : Procedure → ℕ → Moment → Standing
+abbrev pub standing_at : Exec → ℕ → Moment → Standing
 standing_at s line moment =
     record { count = s.count; code = s.code; line = line; depth = length s.calls; from = line_of_last s.calls; moment = moment }
 
 -- what the names stand for at a line and a moment
-abbrev pub seen_at : Procedure → ℕ → Moment → Binding
+abbrev pub seen_at : Exec → ℕ → Moment → Binding
 seen_at s line moment = known s.start (standing_at s line moment) s.variables
 
 -- what they stand for in the statement that runs
-abbrev pub seen : Procedure → Binding
+abbrev pub seen : Exec → Binding
 seen s = seen_at s s.line s.moment

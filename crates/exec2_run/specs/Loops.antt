@@ -11,7 +11,7 @@ use Rattle.exec2_run.specs.Given.{seen_at}
 use Rattle.exec2_run.specs.Jumps.{label_from, place_below}
 use Rattle.exec2_run.specs.Given.{seen}
 use Rattle.exec2_run.specs.Open.{with_pass}
-use Rattle.exec2_run.specs.State.{Procedure, Step}
+use Rattle.exec2_run.specs.State.{Exec, Step}
 use Rattle.exec2_run.specs.Values.{ended, missing, operands, value}
 use Rattle.exec2_parse.specs.Words.{is_label}
 use Rattle.exec2_run.specs.declared.loops.Loop.{Loop}
@@ -42,18 +42,18 @@ behind (Some place) = Ok (place + 1)
 behind None = Err NoLabel
 
 -- the line behind the label below
-abbrev pub end_at_label : Procedure → Text → Result ℕ Fault
+abbrev pub end_at_label : Exec → Text → Result ℕ Fault
 end_at_label s label = behind (label_from label s.next s.lines)
 
 -- or it is so many lines, at least one
-abbrev pub end_of_count : Procedure → Option ℤ → Result ℕ Fault
+abbrev pub end_of_count : Exec → Option ℤ → Result ℕ Fault
 end_of_count s (Some (pos zero)) = Err NotNumber
 end_of_count s (Some (pos (suc n))) = place_below s (suc n)
 end_of_count s (Some (negsuc n)) = Err NotNumber
 end_of_count s None = Err NotNumber
 
 -- the place past the range
-abbrev pub end_of_range : Procedure → Text → Result ℕ Fault
+abbrev pub end_of_range : Exec → Text → Result ℕ Fault
 end_of_range s word = if is_label word then end_at_label s word else end_of_count s (number_of word)
 
 -- a comparison, which is expanded at each test
@@ -125,27 +125,27 @@ first_pass names (While test) = do
 first_pass names (Until test) = Ok (Some (Until test))
 
 -- without a pass the next line is the one past the range; at most 100 loops are open
-abbrev pub opened_by : Procedure → ℕ → Option Passes → Step
+abbrev pub opened_by : Exec → ℕ → Option Passes → Step
 opened_by s past None = Ok (record s { next = past }, Next)
 opened_by s past (Some passes) =
     if nat_le 100 (length s.loops) then Err TooDeep
     else Ok (record s { loops = record { line = s.line; first = s.next; past = past; passes = passes } ∷ s.loops }, Next)
 
 -- a loop begins with its first pass, or is passed over
-unfoldable pub opened : Procedure → ℕ → Passes → Step
+unfoldable pub opened : Exec → ℕ → Passes → Step
 opened s past passes = do
   first ← first_pass (seen s) passes
   opened_by s past first
 
 -- a loop over a range, as often as its words say
-abbrev pub range_looped : Procedure → Text → List Text → Step
+abbrev pub range_looped : Exec → Text → List Text → Step
 range_looped s range words = do
   past ← end_of_range s range
   often ← passes (seen s) words
   opened s past often
 
 -- &LOOP n m, &LOOP -label m
-unfoldable pub looped : Procedure → List Text → Step
+unfoldable pub looped : Exec → List Text → Step
 looped s words = do
   first ← first_of (seen s) words
   range_looped s first.0 first.1
@@ -162,7 +162,7 @@ begins_by names (Until test) = do
   Ok (not holds)
 
 -- a further pass of a loop begins
-abbrev pub begins : Moment → Procedure → Loop → Result Bool Fault
+abbrev pub begins : Moment → Exec → Loop → Result Bool Fault
 begins moment s loop = begins_by (seen_at s loop.line moment) loop.passes
 
 -- the place stands in the range
@@ -170,28 +170,28 @@ abbrev pub has : Loop → ℕ → Bool
 has loop place = nat_le loop.first place && nat_lt place loop.past
 
 -- another pass begins
-abbrev pub again : Procedure → Loop → List Loop → Procedure
+abbrev pub again : Exec → Loop → List Loop → Exec
 again s loop loops = record s { next = loop.first; loops = with_pass (loop ∷ loops) }
 
 -- the loop goes on, or ends and the outer ones follow; or its test has a fault
-abbrev pub passed : Result Bool Fault → ℕ → Procedure → Result Procedure (Fault × ℕ) → Result Procedure (Fault × ℕ)
+abbrev pub passed : Result Bool Fault → ℕ → Exec → Result Exec (Fault × ℕ) → Result Exec (Fault × ℕ)
 passed (Ok true) line more outer = Ok more
 passed (Ok false) line more outer = outer
 passed (Err fault) line more outer = Err (fault, line)
 
 -- where the next line is the one past the innermost range a pass is over: another begins, or the loop is dropped and the one around it
 -- asked; where it lies elsewhere outside, the loop is dropped. A fault of a test is at the line of its &LOOP.
-unfoldable pub settled_from : Moment → Procedure → List Loop → Result Procedure (Fault × ℕ)
+unfoldable pub settled_from : Moment → Exec → List Loop → Result Exec (Fault × ℕ)
 settled_from moment s [] = Ok (record s { loops = [] })
 settled_from moment s (loop ∷ loops) =
     if s.next == loop.past then passed (begins moment s loop) loop.line (again s loop loops) (settled_from moment s loops)
     else (if has loop s.next then Ok (record s { loops = loop ∷ loops }) else settled_from moment s loops)
 
 -- the open loops, tested where their ranges are left
-abbrev pub settled_loops : Moment → Procedure → Result Procedure (Fault × ℕ)
+abbrev pub settled_loops : Moment → Exec → Result Exec (Fault × ℕ)
 settled_loops moment s = settled_from moment s s.loops
 
 -- the first so many loops are dropped, and of those that are left the innermost begins another pass or not
-abbrev pub left_open : Procedure → Bool → List Loop → Procedure
+abbrev pub left_open : Exec → Bool → List Loop → Exec
 left_open s more [] = record s { loops = [] }
 left_open s more (loop ∷ loops) = if more then again s loop loops else record s { loops = loop ∷ loops }

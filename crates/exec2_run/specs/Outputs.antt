@@ -3,7 +3,7 @@ use Rattle.std.specs.Prelude.{ℕ, ◌+◌, Bool, ◌||◌, if◌then◌else◌,
 use Rattle.cms_fields.specs.Steps.{◌>>=◌, ◌>>◌}
 use Rattle.cms_text.specs.Texts.{Text, first_word, is_keyword}
 use Rattle.exec2_run.specs.Given.{seen}
-use Rattle.exec2_run.specs.State.{Procedure, Step}
+use Rattle.exec2_run.specs.State.{Exec, Step}
 use Rattle.exec2_run.specs.Values.{ended, operands, text}
 use Rattle.exec2_run.specs.declared.output.Block.{Block}
 use Rattle.exec2_run.specs.declared.want.Side.{Side}
@@ -14,25 +14,25 @@ use Rattle.exec2_run.specs.declared.fault.Fault.{Fault}
 use Rattle.exec2_run.specs.declared.fault.Fault.TheVariants.{NoEnd}
 
 -- the words' text as the only line
-abbrev pub text_line : Procedure → List Text → Result (List Text) Fault
+abbrev pub text_line : Exec → List Text → Result (List Text) Fault
 text_line s words = do
   line ← text (seen s) words
   Ok (line ∷ [])
 
 -- &TYPE text
-unfoldable pub typed : Procedure → List Text → Result Want Fault
+unfoldable pub typed : Exec → List Text → Result Want Fault
 typed s words = do
   lines ← text_line s words
   Ok (Say lines)
 
 -- &COMMAND text
-unfoldable pub issued : Procedure → List Text → Result Want Fault
+unfoldable pub issued : Exec → List Text → Result Want Fault
 issued s words = do
   line ← text (seen s) words
   Ok (Command line)
 
 -- no word stands behind
-unfoldable pub no_words : Procedure → List Text → Result (Unit {0}) Fault
+unfoldable pub no_words : Exec → List Text → Result (Unit {0}) Fault
 no_words s words = ended (operands (seen s) words).words (operands (seen s) words).is_cut
 
 -- a line whose first word is &END
@@ -51,11 +51,11 @@ block_from place (line ∷ lines) =
     if is_end line then Ok (record { lines = []; past = place + 1 }) else in_front (line ∷ []) (block_from (place + 1) lines)
 
 -- the lines up to &END, from the next one on
-abbrev pub block : Procedure → Result Block Fault
+abbrev pub block : Exec → Result Block Fault
 block s = block_from s.next (drop s.next s.lines)
 
 -- &BEGTYPE
-unfoldable pub typed_block : Procedure → List Text → Step
+unfoldable pub typed_block : Exec → List Text → Step
 typed_block s words = do
   no_words s words
   b ← block s
@@ -76,13 +76,13 @@ behind_side [] = []
 behind_side (word ∷ words) = if is_side word then words else word ∷ words
 
 -- &STACK text
-unfoldable pub stacked : Procedure → List Text → Result Want Fault
+unfoldable pub stacked : Exec → List Text → Result Want Fault
 stacked s words = do
   lines ← text_line s (behind_side words)
   Ok (Stack lines (side_of words))
 
 -- &BEGSTACK
-unfoldable pub stacked_block : Procedure → List Text → Step
+unfoldable pub stacked_block : Exec → List Text → Step
 stacked_block s words = do
   no_words s (behind_side words)
   b ← block s

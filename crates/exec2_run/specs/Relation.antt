@@ -10,7 +10,7 @@ use Rattle.exec2_run.specs.Given.{seen, seen_at}
 use Rattle.exec2_parse.specs.Kinds.{is_if}
 use Rattle.exec2_run.specs.Loops as looping
 use Rattle.exec2_run.specs.Loops.{has}
-use Rattle.exec2_run.specs.State.{Procedure, Step}
+use Rattle.exec2_run.specs.State.{Exec, Step}
 use Rattle.exec2_run.specs.Steps.{Takes, action_words, at_line, code_taken, compared, incomplete, is_due, is_running, line_taken, refused, settled, turned, with_next, words_at}
 use Rattle.exec2_run.specs.Variables.{each_set, with_arguments, with_variable, with_variables}
 use Rattle.exec2_parse.specs.Words.{words_of}
@@ -19,7 +19,7 @@ use Rattle.exec2_run.specs.declared.loops.Loop.{Loop}
 use Rattle.exec2_run.specs.declared.loops.Passes.{Passes}
 use Rattle.exec2_run.specs.declared.loops.Passes.TheVariants.{Left, Forever, While, Until}
 use Rattle.exec2_run.specs.declared.loops.Test.{Test}
-use Rattle.exec2_run.specs.declared.reading.Reading.TheVariants as reading
+use Rattle.exec2_run.specs.declared.asked_line.Reading.TheVariants as reading
 use Rattle.exec2_run.specs.declared.want.Want.{Want}
 use Rattle.exec2_run.specs.declared.want.Want.TheVariants.{Next, Ended}
 use Rattle.exec2_run.specs.declared.fault.Fault.{Fault}
@@ -35,7 +35,7 @@ pub data Action : Type 0 where
 
 -- the state that it leaves and what it wants, or the fault and its line
 abbrev pub Moved : Type 0
-Moved = Result (Procedure × Want) (Fault × ℕ)
+Moved = Result (Exec × Want) (Fault × ℕ)
 
 -- ---- &IF
 
@@ -60,7 +60,7 @@ pub data Guards (names : Binding) : List Text → Result (List Text) Fault → T
       → compared names left sign right ≡ Err fault → m ≡ Err fault → Guards names (word ∷ left ∷ sign ∷ right ∷ words) m
 
 -- a statement, in the state in which it runs
-pub data Executes (s : Procedure) (words : List Text) (m : Moved) : Type 0 where
+pub data Executes (s : Exec) (words : List Text) (m : Moved) : Type 0 where
   runs : {statement : List Text} {step : Step} → Guards (seen s) words (Ok statement) → Runs s statement step → m ≡ at_line s.line step
       → Executes s words m
   faults : {fault : Fault} → Guards (seen s) words (Err fault) → m ≡ Err (fault, s.line) → Executes s words m
@@ -83,40 +83,40 @@ pub data Begins (names : Binding) : Passes → Result Bool Fault → Type 0 wher
       → Begins names (Until test) m
 
 -- at its line as &LINE, and at the moment of the last statement
-abbrev pub BeginsThen : Moment → Procedure → Loop → Result Bool Fault → Type 0
+abbrev pub BeginsThen : Moment → Exec → Loop → Result Bool Fault → Type 0
 BeginsThen moment s loop = Begins (seen_at s loop.line moment) loop.passes
 
 -- the open loops from this one on, where those within it are over and dropped
-pub data Settling (moment : Moment) (s : Procedure) : List Loop → Result Procedure (Fault × ℕ) → Type 0 where
+pub data Settling (moment : Moment) (s : Exec) : List Loop → Result Exec (Fault × ℕ) → Type 0 where
   -- no loop is open
-  none : {m : Result Procedure (Fault × ℕ)} → m ≡ Ok (record s { loops = [] }) → Settling moment s [] m
+  none : {m : Result Exec (Fault × ℕ)} → m ≡ Ok (record s { loops = [] }) → Settling moment s [] m
   -- the next line is the one past the range: another pass begins
-  again : {loop : Loop} {loops : List Loop} {m : Result Procedure (Fault × ℕ)} → (s.next == loop.past) ≡ true
+  again : {loop : Loop} {loops : List Loop} {m : Result Exec (Fault × ℕ)} → (s.next == loop.past) ≡ true
       → BeginsThen moment s loop (Ok true) → m ≡ Ok (looping.again s loop loops) → Settling moment s (loop ∷ loops) m
   -- or it was the last, and the loop around it is asked
-  over : {loop : Loop} {loops : List Loop} {m : Result Procedure (Fault × ℕ)} → (s.next == loop.past) ≡ true
+  over : {loop : Loop} {loops : List Loop} {m : Result Exec (Fault × ℕ)} → (s.next == loop.past) ≡ true
       → BeginsThen moment s loop (Ok false) → Settling moment s loops m → Settling moment s (loop ∷ loops) m
   -- or the test has a fault, which is at the line of the &LOOP
-  faulty : {loop : Loop} {loops : List Loop} {fault : Fault} {m : Result Procedure (Fault × ℕ)} → (s.next == loop.past) ≡ true
+  faulty : {loop : Loop} {loops : List Loop} {fault : Fault} {m : Result Exec (Fault × ℕ)} → (s.next == loop.past) ≡ true
       → BeginsThen moment s loop (Err fault) → m ≡ Err (fault, loop.line) → Settling moment s (loop ∷ loops) m
   -- it stands in the range: the loop stays open
-  inside : {loop : Loop} {loops : List Loop} {m : Result Procedure (Fault × ℕ)} → (s.next == loop.past) ≡ false
+  inside : {loop : Loop} {loops : List Loop} {m : Result Exec (Fault × ℕ)} → (s.next == loop.past) ≡ false
       → has loop s.next ≡ true → m ≡ Ok (record s { loops = loop ∷ loops }) → Settling moment s (loop ∷ loops) m
   -- it stands elsewhere: the loop is dropped
-  jumped_out : {loop : Loop} {loops : List Loop} {m : Result Procedure (Fault × ℕ)} → (s.next == loop.past) ≡ false
+  jumped_out : {loop : Loop} {loops : List Loop} {m : Result Exec (Fault × ℕ)} → (s.next == loop.past) ≡ false
       → has loop s.next ≡ false → Settling moment s loops m → Settling moment s (loop ∷ loops) m
 
 -- ---- the calls
 
 -- what an action makes of a procedure, case by case
-pub data Moves (old : Procedure) (moment : Moment) : Action → Moved → Type 0 where
+pub data Moves (old : Exec) (moment : Moment) : Action → Moved → Type 0 where
   -- finding the next line: where the error action is due it runs before any loop is tested
   due : {m : Moved} → is_due old.action ≡ true → m ≡ Ok (old, Next) → Moves old moment Settle m
   -- else the loops are settled, and a line is next
-  next_line : {new : Procedure} {m : Moved} → is_due old.action ≡ false → Settling moment old old.loops (Ok new)
+  next_line : {new : Exec} {m : Moved} → is_due old.action ≡ false → Settling moment old old.loops (Ok new)
       → nat_lt new.next (length new.lines) ≡ true → m ≡ Ok (new, Next) → Moves old moment Settle m
   -- or the procedure has ended past its last line
-  no_line : {new : Procedure} {m : Moved} → is_due old.action ≡ false → Settling moment old old.loops (Ok new)
+  no_line : {new : Exec} {m : Moved} → is_due old.action ≡ false → Settling moment old old.loops (Ok new)
       → nat_lt new.next (length new.lines) ≡ false → m ≡ Ok (new, Ended (pos 0)) → Moves old moment Settle m
   -- or a loop's test has a fault
   test_fault : {failure : Fault × ℕ} {m : Moved} → is_due old.action ≡ false → Settling moment old old.loops (Err failure) → m ≡ Err failure
@@ -161,11 +161,11 @@ pub data Moves (old : Procedure) (moment : Moment) : Action → Moved → Type 0
   stack_full : {m : Moved} → m ≡ refused old → Moves old moment RefuseStack m
 
 -- an action takes the old state to the new one at a moment, and answers
-abbrev pub StepOf : Procedure → Moment → Action → Want → Procedure → Type 0
+abbrev pub StepOf : Exec → Moment → Action → Want → Exec → Type 0
 StepOf old moment act answer new = (m : Moved) × Moves old moment act m × Takes m old new answer
 
 -- the function that computes it
-abbrev pub moved : Procedure → Moment → Action → Moved
+abbrev pub moved : Exec → Moment → Action → Moved
 moved s moment Settle = settled moment s
 moved s moment Turn = turned moment s
 moved s moment (GiveLine given) = line_taken s given
@@ -174,10 +174,10 @@ moved s moment RefuseStack = refused s
 
 -- the relation says no more than the function, and no less
 abbrev pub StepsAreMoved : Type 0
-StepsAreMoved = (old : Procedure) (moment : Moment) (act : Action) (answer : Want) (new : Procedure) → StepOf old moment act answer new
+StepsAreMoved = (old : Exec) (moment : Moment) (act : Action) (answer : Want) (new : Exec) → StepOf old moment act answer new
     → Takes (moved old moment act) old new answer
 
 -- the functions of the calls say what the relation says
 abbrev pub MovedAreSteps : Type 0
-MovedAreSteps = (old : Procedure) (moment : Moment) (act : Action) (answer : Want) (new : Procedure) → Takes (moved old moment act) old new answer
+MovedAreSteps = (old : Exec) (moment : Moment) (act : Action) (answer : Want) (new : Exec) → Takes (moved old moment act) old new answer
     → StepOf old moment act answer new

@@ -8,12 +8,12 @@ use Rattle.exec2_run.specs.declared.exec.ErrorAction.{ErrorAction}
 use Rattle.exec2_run.specs.declared.fault.Fault.{Fault}
 use Rattle.exec2_run.specs.declared.given.AtStart.{AtStart}
 use Rattle.exec2_run.specs.declared.loops.Loop.{Loop}
-use Rattle.exec2_run.specs.declared.reading.Reading.{Reading}
+use Rattle.exec2_run.specs.declared.asked_line.Reading.{Reading}
 use Rattle.exec2_run.specs.declared.variables.Variables.{Variables}
 use Rattle.exec2_run.specs.declared.want.Want.{Want}
 
 -- what there is of a procedure that runs
-pub record Procedure : Type 0 where
+pub record Exec : Type 0 where
   -- its lines, and the place of the next one, from 0
   pub lines : List Text
   pub next : ℕ
@@ -40,9 +40,9 @@ pub record Procedure : Type 0 where
 
 -- the state that a statement leaves and what it wants, or its fault
 abbrev pub Step : Type 0
-Step = Result (Procedure × Want) Fault
+Step = Result (Exec × Want) Fault
 
 -- what a statement wants that changes nothing
-abbrev pub still : Procedure → Result Want Fault → Step
+abbrev pub still : Exec → Result Want Fault → Step
 still s (Ok want) = Ok (s, want)
 still s (Err fault) = Err fault

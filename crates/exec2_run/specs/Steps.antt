@@ -21,7 +21,7 @@ use Rattle.exec2_parse.specs.Kinds.{is_if, kind_of}
 use Rattle.exec2_run.specs.Loops.{looped, settled_loops}
 use Rattle.exec2_run.specs.Outputs.{issued, stacked, stacked_block, typed, typed_block}
 use Rattle.exec2_run.specs.Readings.{args_given, read, taken_for}
-use Rattle.exec2_run.specs.State.{Procedure, Step, still}
+use Rattle.exec2_run.specs.State.{Exec, Step, still}
 use Rattle.exec2_run.specs.Values.{ended, operands, value, whole}
 use Rattle.exec2_run.specs.Variables.{with_arguments}
 use Rattle.exec2_parse.specs.Words.{statement_on, words_of}
@@ -33,7 +33,7 @@ use Rattle.exec2_parse.specs.declared.kind.Control.{Control}
 use Rattle.exec2_parse.specs.declared.kind.Control.TheVariants as control
 use Rattle.exec2_parse.specs.declared.kind.Kind.{Kind}
 use Rattle.exec2_parse.specs.declared.kind.Kind.TheVariants as kind
-use Rattle.exec2_run.specs.declared.reading.Reading.TheVariants as reading
+use Rattle.exec2_run.specs.declared.asked_line.Reading.TheVariants as reading
 use Rattle.exec2_run.specs.declared.want.Want.{Want}
 use Rattle.exec2_run.specs.declared.want.Want.TheVariants.{Next, Ended, Failed}
 use Rattle.exec2_run.specs.declared.fault.Fault.{Fault}
@@ -63,7 +63,7 @@ exited_by (word ∷ others) is_cut = do
   Ok (Ended code)
 
 -- &EXIT, with a code or without
-unfoldable pub exited : Procedure → List Text → Result Want Fault
+unfoldable pub exited : Exec → List Text → Result Want Fault
 exited s words = exited_by (operands (seen s) words).words (operands (seen s) words).is_cut
 
 -- &ERROR and a statement that is kept unexpanded, or alone
@@ -72,7 +72,7 @@ action_of [] = None
 action_of (word ∷ words) = Some (word ∷ words)
 
 -- the error action is these words, or none
-abbrev pub with_error : Procedure → List Text → Procedure
+abbrev pub with_error : Exec → List Text → Exec
 with_error s words = record s { error = action_of words }
 
 -- ---- &IF a op b statement
@@ -115,7 +115,7 @@ guarded names words = if is_if words then incomplete names words else Ok words
 -- ---- statements
 
 -- what a control word does
-unfoldable pub run_control : Control → Procedure → List Text → Step
+unfoldable pub run_control : Control → Exec → List Text → Step
 run_control control.Trace s words = Ok (s, Next)
 run_control control.Type s words = still s (typed s words)
 run_control control.BegType s words = typed_block s words
@@ -137,18 +137,18 @@ run_control control.Error s words = Ok (with_error s words, Next)
 run_control control.Exit s words = still s (exited s words)
 
 -- what a statement does, by its kind
-abbrev pub run_by : Kind → Procedure → List Text → Step
+abbrev pub run_by : Kind → Exec → List Text → Step
 run_by kind.Nothing s words = Ok (s, Next)
 run_by kind.Assignment s words = assigned s words
 run_by (kind.Control c) s words = run_control c s (drop 1 words)
 run_by kind.Command s words = still s (sent s words)
 
 -- a statement that no &IF guards
-unfoldable pub run_kind : Procedure → List Text → Step
+unfoldable pub run_kind : Exec → List Text → Step
 run_kind s words = run_by (kind_of words) s words
 
 -- a statement, behind its &IFs
-unfoldable pub run : Procedure → List Text → Step
+unfoldable pub run : Exec → List Text → Step
 run s words = do
   statement ← guarded (seen s) words
   run_kind s statement
@@ -162,15 +162,15 @@ is_due Due = true
 is_due Running = false
 
 -- the words of the next line's statement
-abbrev pub words_at : Procedure → List Text
+abbrev pub words_at : Exec → List Text
 words_at s = option_map_or statement_on (slice_get s.lines s.next) []
 
 -- the next line becomes the statement's, and the one behind it the next
-abbrev pub past_line : Procedure → Procedure
+abbrev pub past_line : Exec → Exec
 past_line s = if nat_lt s.next (length s.lines) then record s { next = s.next + 1; line = s.next + 1 } else s
 
 -- the error action runs where it is due, as if on the command's line
-abbrev pub advanced : Moment → Procedure → Procedure
+abbrev pub advanced : Moment → Exec → Exec
 advanced moment s =
     if is_due s.action then record s { action = Running; moment = moment } else past_line (record s { action = Idle; moment = moment })
 
@@ -180,7 +180,7 @@ action_words (Some words) = words
 action_words None = []
 
 -- the words of the statement that is due
-abbrev pub due_words : Procedure → List Text
+abbrev pub due_words : Exec → List Text
 due_words s = if is_due s.action then action_words s.error else words_at s
 
 -- a fault is that of a line
@@ -189,17 +189,17 @@ at_line line (Ok a) = Ok a
 at_line line (Err fault) = Err (fault, line)
 
 -- the statement that is due, with the variables that are given at its line and moment
-unfoldable pub turned : Moment → Procedure → Result (Procedure × Want) (Fault × ℕ)
+unfoldable pub turned : Moment → Exec → Result (Exec × Want) (Fault × ℕ)
 turned moment s = at_line (advanced moment s).line (run (advanced moment s) (due_words s))
 
 -- ---- between two statements
 
 -- past the last line the procedure has ended
-abbrev pub at_next : Procedure → Want
+abbrev pub at_next : Exec → Want
 at_next s = if nat_lt s.next (length s.lines) then Next else Ended (pos 0)
 
 -- a procedure that finds its next line, with the tests of its loops
-unfoldable pub settled : Moment → Procedure → Result (Procedure × Want) (Fault × ℕ)
+unfoldable pub settled : Moment → Exec → Result (Exec × Want) (Fault × ℕ)
 settled moment s = if is_due s.action then Ok (s, Next) else (do
   t ← settled_loops moment s
   Ok (t, at_next t))
@@ -207,12 +207,12 @@ settled moment s = if is_due s.action then Ok (s, Next) else (do
 -- ---- answers
 
 -- the next statement follows; or a fault, with its line
-abbrev pub with_next : Procedure → Result Procedure Fault → Result (Procedure × Want) (Fault × ℕ)
+abbrev pub with_next : Exec → Result Exec Fault → Result (Exec × Want) (Fault × ℕ)
 with_next s (Ok t) = Ok (t, Next)
 with_next s (Err fault) = Err (fault, s.line)
 
 -- the line that was asked for
-unfoldable pub line_taken : Procedure → Text → Result (Procedure × Want) (Fault × ℕ)
+unfoldable pub line_taken : Exec → Text → Result (Exec × Want) (Fault × ℕ)
 line_taken s line = with_next s (taken_for s.reading (record s { reading = reading.Nothing }) line)
 
 -- the error action runs
@@ -222,21 +222,21 @@ is_running Due = false
 is_running Running = true
 
 -- the code of a command is kept; with one other than 0 the error action is due, unless it issued the command
-abbrev pub action_after : Procedure → ℤ → ErrorAction
+abbrev pub action_after : Exec → ℤ → ErrorAction
 action_after s code = if not (int_eq code (pos 0)) && (is_some s.error && not (is_running s.action)) then Due else Idle
 
 -- the last command's code is this
-unfoldable pub code_taken : Procedure → ℤ → Procedure
+unfoldable pub code_taken : Exec → ℤ → Exec
 code_taken s code = record s { code = code; action = action_after s code }
 
 -- the program stack has no room for the lines: fault 13, and the state stays
-abbrev pub refused : Procedure → Result (Procedure × Want) (Fault × ℕ)
+abbrev pub refused : Exec → Result (Exec × Want) (Fault × ℕ)
 refused s = Ok (s, Failed (number_of_fault StackFull) s.line)
 
 -- ---- the start
 
 -- before its first line it has no arguments, and its commands go to CMS
-abbrev pub before_first : List Text → AtStart → Procedure
+abbrev pub before_first : List Text → AtStart → Exec
 before_first lines start = record {
   lines = lines;
   next = 0;
@@ -255,12 +255,12 @@ before_first lines start = record {
 }
 
 -- the procedure begins with its arguments; a line has no more than 1,000 words
-unfoldable pub begun : List Text → Text → FileName → Result Procedure Fault
+unfoldable pub begun : List Text → Text → FileName → Result Exec Fault
 begun lines called f = with_arguments (before_first lines (at_start called f)) (words_of (behind_name called))
 
 -- ---- what a call answers
 
 -- the defined state and want, or the fault and its line, after which the procedure stands as before the call
-abbrev pub Takes : Result (Procedure × Want) (Fault × ℕ) → Procedure → Procedure → Want → Type 0
+abbrev pub Takes : Result (Exec × Want) (Fault × ℕ) → Exec → Exec → Want → Type 0
 Takes (Ok moved) old new want = (new ≡ moved.0) × (want ≡ moved.1)
 Takes (Err failure) old new want = (new ≡ old) × (want ≡ Failed (number_of_fault failure.0) failure.1)

@@ -7,10 +7,10 @@ use Rattle.cms_ebcdic.specs.CodePage.{upper_of}
 use Rattle.cms_text.specs.Numbers.{decimal_of}
 use Rattle.cms_text.specs.Texts.{Text}
 use Rattle.exec2_parse.specs.Expansion.{Binding, ampersands}
-use Rattle.exec2_parse.specs.Variables.{Values}
+use Rattle.exec2_parse.specs.Variables.{Vars}
 use Rattle.exec2_run.specs.Values.{value}
 use Rattle.exec2_run.specs.Given.{is_argument, is_given, table_of}
-use Rattle.exec2_run.specs.State.{Procedure, Step}
+use Rattle.exec2_run.specs.State.{Exec, Step}
 use Rattle.exec2_run.specs.declared.want.Want.TheVariants.{Next}
 use Rattle.exec2_run.specs.declared.variables.Variables.{Variables}
 use Rattle.exec2_run.specs.declared.fault.Fault.{Fault}
@@ -43,7 +43,7 @@ abbrev pub has_room : Variables → Text → Bool
 has_room v name = is_some (get (table_of v name) name) || nat_le (len v.arguments + len v.others + 1) 1000
 
 -- the arguments or the other variables are these
-abbrev pub with_table : Variables → Text → Values → Variables
+abbrev pub with_table : Variables → Text → Vars → Variables
 with_table v name table = if is_argument name then record v { arguments = table } else record v { others = table }
 
 -- a variable is set
@@ -69,33 +69,33 @@ each_set (name ∷ names) words v = do
   each_set names (drop 1 words) w
 
 -- these as &1 and on, from this number on
-unfoldable pub numbered : ℕ → List Text → Values → Values
+unfoldable pub numbered : ℕ → List Text → Vars → Vars
 numbered n [] table = table
 numbered n (value ∷ values) table = numbered (n + 1) values (insert table (decimal_of n) value)
 
 -- ---- in the state
 
 -- a procedure with other variables, or their fault
-abbrev pub with_variables : Procedure → Result Variables Fault → Result Procedure Fault
+abbrev pub with_variables : Exec → Result Variables Fault → Result Exec Fault
 with_variables s (Ok v) = Ok (record s { variables = v })
 with_variables s (Err fault) = Err fault
 
 -- a variable is set
-abbrev pub with_variable : Procedure → Text → Text → Result Procedure Fault
+abbrev pub with_variable : Exec → Text → Text → Result Exec Fault
 with_variable s name value = with_variables s (with_value s.variables name value)
 
 -- a variable is set, and nothing is wanted
-abbrev pub set_to : Procedure → Text → Text → Step
+abbrev pub set_to : Exec → Text → Text → Step
 set_to s name value = do
   t ← with_variable s name value
   Ok (t, Next)
 
 -- the arguments are these, so many
-abbrev pub all_arguments : Procedure → Values → ℕ → Procedure
+abbrev pub all_arguments : Exec → Vars → ℕ → Exec
 all_arguments s arguments count = record s { variables = record { arguments = arguments; others = s.variables.others }; count = count }
 
 -- these become the arguments, and no others are set
-unfoldable pub with_arguments : Procedure → List Text → Result Procedure Fault
+unfoldable pub with_arguments : Exec → List Text → Result Exec Fault
 with_arguments s values = do
   room_for (len s.variables.others + length values)
   Ok (all_arguments s (numbered 1 values empty) (length values))

@@ -9,12 +9,12 @@ ghost use Rattle.exec2_parse.specs.Kinds.{guards, kind_of};
 ghost use Rattle.exec2_run.specs.Due.{at_place, place_of, words_due};
 ghost use Rattle.exec2_run.specs.Steps.{Takes};
 
+use crate::asked_line::Reading;
 use crate::calls::{Calls, line_of_last};
 use crate::comparison::{Comparison, words_hold};
 use crate::destination::Destination;
 use crate::given::{AtStart, Seen, Standing, behind_name};
 use crate::loops::Loops;
-use crate::reading::Reading;
 use crate::values::{ended, expanded_words, value, whole};
 use crate::variables::Variables;
 use crate::words::behind_first;
@@ -134,9 +134,9 @@ pub struct ExecState {
 impl Model for ExecState {
     ghost use Rattle.exec2_parse.specs.contracts.vars.Vars as vars;
     ghost use Rattle.std.specs.Coded.{codes};
-    ghost use Rattle.exec2_run.specs.State.{Procedure};
+    ghost use Rattle.exec2_run.specs.State as states;
 
-    ghost Value = { Procedure };
+    ghost Value = { states.Exec };
 
     ghost coded = { Prim.hlevel (codes, vars.the_row.coded) };
 
@@ -167,9 +167,9 @@ pub struct Exec {
 impl Model for Exec {
     ghost use Rattle.exec2_parse.specs.contracts.vars.Vars as vars;
     ghost use Rattle.std.specs.Coded.{codes};
-    ghost use Rattle.exec2_run.specs.State.{Procedure};
+    ghost use Rattle.exec2_run.specs.State as states;
 
-    ghost Value = { Procedure };
+    ghost Value = { states.Exec };
 
     ghost coded = { Prim.hlevel (codes, vars.the_row.coded) };
 

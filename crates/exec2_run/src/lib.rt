@@ -1,9 +1,10 @@
 //! One statement of an EXEC 2 procedure at a time.
 #![tactic(auto)]
 
+mod asked_line;
 mod assignment;
 mod borrowed;
-mod calling;
+mod call_return;
 mod calls;
 mod comparison;
 mod destination;
@@ -12,10 +13,9 @@ mod fault;
 mod given;
 mod jumps;
 mod laws;
-mod looping;
+mod loop_passes;
 mod loops;
 mod output;
-mod reading;
 mod stack;
 mod values;
 mod variables;

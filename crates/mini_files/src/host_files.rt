@@ -4,8 +4,8 @@ ghost use Rattle.cms_journal.specs.Causes.{Rose};
 ghost use Rattle.mini_files.specs.Sources.{left_of};
 
 use crate::draft::{Written, folder_of, sync_folder};
+use crate::notes::{tell, tell_failure, tell_unsettled};
 use crate::source::{Source, gather, is_absent, open_plain};
-use crate::telling::{tell, tell_failure, tell_unsettled};
 use cms_world::ImageName;
 use mini_host::{Failed, Host, Note, Refusal};
 use std::alloc::Global;

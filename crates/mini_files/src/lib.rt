@@ -3,7 +3,7 @@
 
 mod draft;
 mod host_files;
+mod notes;
 mod source;
-mod telling;
 
 pub use host_files::HostFiles;

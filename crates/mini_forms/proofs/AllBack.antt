@@ -7,8 +7,8 @@ use Rattle.cms_fields.specs.Limits.{longest_record}
 use Rattle.cms_names.specs.declared.name.Format.{Format}
 use Rattle.cms_names.specs.declared.name.Format.TheVariants.{F, V}
 use Rattle.cms_model.specs.Records.{Fits, with_length}
-use Rattle.mini_forms.specs.Writing.{is_line, line_of, written}
-use Rattle.mini_forms.specs.Reading.{records_in}
+use Rattle.mini_forms.specs.Output.{is_line, line_of, written}
+use Rattle.mini_forms.specs.RecordReads.{records_in}
 use Rattle.mini_forms.specs.Laws.{ComesBack, LinesStay, size_of}
 use Rattle.mini_forms.specs.declared.form.Form.TheVariants as form
 use Rattle.mini_forms.specs.declared.form.Layout.{Layout}

@@ -15,8 +15,8 @@ use Rattle.cms_model.specs.Records.{Fits, with_length}
 use Rattle.cms_records.specs.Views.{fitted}
 use Rattle.mini_forms.specs.Page.{character_of, code_of}
 use Rattle.mini_forms.specs.Lines.{text_of, utf8, step_of, fresh_step, second_byte}
-use Rattle.mini_forms.specs.Writing.{is_line, is_plain, line_of, shown}
-use Rattle.mini_forms.specs.Reading.{Reading, block_fed, ended, ended_at, is_length, line_fed, most_of, read_from, record_of, size_in, stored_fed, stored_size, whole_in}
+use Rattle.mini_forms.specs.Output.{is_line, is_plain, line_of, shown}
+use Rattle.mini_forms.specs.RecordReads.{Reader, block_fed, ended, ended_at, is_length, line_fed, most_of, read_from, record_of, size_in, stored_fed, stored_size, whole_in}
 use Rattle.mini_forms.specs.Laws.{size_of}
 use Rattle.mini_forms.specs.declared.form.FormFault.{FormFault}
 use Rattle.mini_forms.specs.declared.place.Head.TheVariants.{Start, High, Left}
@@ -24,7 +24,7 @@ use Rattle.mini_forms.specs.declared.place.Place.{Place}
 use Rattle.mini_forms.specs.declared.place.Place.TheVariants.{Line, Block, Stored}
 use Rattle.mini_forms.specs.declared.step.Begun.TheVariants.{Fresh, LowHalf, HighHalf}
 use Rattle.mini_forms.proofs.Tables.{character_fits, plain_character, there}
-use Rattle.mini_forms.proofs.Trailing.{is_stripped, kept_before, replaced, strip, strip_few}
+use Rattle.mini_forms.proofs.TrailingBytes.{is_stripped, kept_before, replaced, strip, strip_few}
 use Rattle.mini_forms.proofs.Steps.{counts, ends_one, goes_on, in_front, midway, behind}
 
 -- ---- lines
@@ -243,7 +243,7 @@ pub all_back : (place : Place) (one : List ℕ → List ℕ) (records : List (Li
     → read_from (midway place [] count stored) (concat (map one records)) ≡ Ok records
 unfolding read_from
 all_back place one [] count stored last each some few short =
-    ap (λ (r : Result Reading FormFault). r >>= λ s. Ok (whole_in s)) (last count stored (omega arith))
+    ap (λ (r : Result Reader FormFault). r >>= λ s. Ok (whole_in s)) (last count stored (omega arith))
 all_back place one (codes ∷ more) count stored last each some few short =
     each.0 count stored (concat (map one more)) (omega arith) (omega arith)
     ∙ ap (in_front codes) (all_back place one more (count + 1) (stored + stored_size (size_in place) (length codes)) last each.1 (omega arith) (omega arith) (omega arith))

@@ -1,5 +1,5 @@
 mod Tables
-pub mod Trailing
+pub mod TrailingBytes
 pub mod Steps
 pub mod Back
 pub mod Stay

@@ -5,7 +5,7 @@ use Rattle.std.proofs.lemmas.Bool.{and_parts, lt-ltb}
 use Rattle.std.proofs.lemmas.List.{drop-drop, length-drop, length_push, length-take-le, take-append-drop}
 use Rattle.mini_forms.specs.Page.{code_of}
 use Rattle.mini_forms.specs.Lines.{fresh_step, is_simple, step_of}
-use Rattle.mini_forms.specs.Reading.{Reading, Skips, SkipsFront, begun, block_fed, fed, line_fed, most_of, read_from}
+use Rattle.mini_forms.specs.RecordReads.{Reader, Skips, SkipsFront, begun, block_fed, fed, line_fed, most_of, read_from}
 use Rattle.mini_forms.specs.declared.place.Place.{Place}
 use Rattle.mini_forms.specs.declared.place.Place.TheVariants.{Line, Block}
 use Rattle.mini_forms.specs.declared.step.Begun.TheVariants.{Fresh, LowHalf, HighHalf, Return}
@@ -16,16 +16,16 @@ use Rattle.mini_forms.proofs.StayBytes.{unequal}
 
 -- ---- nothing is skipped
 
-same_begun : (s : Reading) (bytes : List ℕ) → read_from s bytes ≡ read_from (begun s) bytes
+same_begun : (s : Reader) (bytes : List ℕ) → read_from s bytes ≡ read_from (begun s) bytes
 unfolding read_from
 same_begun s [] = refl
 same_begun s (b ∷ rest) = refl
 
 -- behind a whole record the next one begins
-pub skips_from : (s b t : Reading) (bytes : List ℕ) (from n : ℕ) → b ≡ begun s → from < length bytes → SkipsFront b t (drop from bytes) n
+pub skips_from : (s b t : Reader) (bytes : List ℕ) (from n : ℕ) → b ≡ begun s → from < length bytes → SkipsFront b t (drop from bytes) n
     → Skips s t bytes from (from + n)
 skips_from s b t bytes from n is here p =
-    let q = subst (λ (x : Reading). SkipsFront x t (drop from bytes) n) is p in
+    let q = subst (λ (x : Reader). SkipsFront x t (drop from bytes) n) is p in
     let long = length-drop from bytes in
     let few = q.few in
     record {
@@ -37,24 +37,24 @@ skips_from s b t bytes from n is here p =
       count = q.count;
     }
 
-pub skips_none : (s : Reading) (bytes : List ℕ) → 0 < length bytes → SkipsFront s s bytes 0
+pub skips_none : (s : Reader) (bytes : List ℕ) → 0 < length bytes → SkipsFront s s bytes 0
 skips_none s bytes some = record { few = some; reads = λ rest. refl; size = refl; count = refl }
 
 -- a reading within a record is one of its place
-within_one : (s : Reading) (place : Place) → s.place ≡ place → s.whole ≡ false → s ≡ midway place s.bytes s.count s.stored
+within_one : (s : Reader) (place : Place) → s.place ≡ place → s.whole ≡ false → s ≡ midway place s.bytes s.count s.stored
 within_one s place at fresh =
     ap (λ (x : Place). record { place = x; bytes = s.bytes; whole = s.whole; count = s.count; stored = s.stored }) at
     ∙ ap (λ (x : Bool). record { place = place; bytes = s.bytes; whole = x; count = s.count; stored = s.stored }) fresh
 
 -- the same reading, but for its bytes
-pub record IsMore (s t : Reading) (bytes : List ℕ) : Type 0 where
+pub record IsMore (s t : Reader) (bytes : List ℕ) : Type 0 where
   pub place : t.place ≡ s.place
   pub bytes_are : t.bytes ≡ s.bytes ++ bytes
   pub whole : t.whole ≡ s.whole
   pub count : t.count ≡ s.count
   pub stored : t.stored ≡ s.stored
 
-more_is : (s t : Reading) (place : Place) (bytes : List ℕ) → s.place ≡ place → s.whole ≡ false → IsMore s t bytes
+more_is : (s t : Reader) (place : Place) (bytes : List ℕ) → s.place ≡ place → s.whole ≡ false → IsMore s t bytes
     → t ≡ midway place (s.bytes ++ bytes) s.count s.stored
 more_is s t place bytes at fresh p =
     within_one t place (p.place ∙ at) (p.whole ∙ fresh)
@@ -62,11 +62,11 @@ more_is s t place bytes at fresh p =
     ∙ ap (λ (x : ℕ). midway place (s.bytes ++ bytes) x t.stored) p.count
     ∙ ap (λ (x : ℕ). midway place (s.bytes ++ bytes) s.count x) p.stored
 
-skips_as : (s t : Reading) (place : Place) (bytes more : List ℕ) (n : ℕ) → s.place ≡ place → s.whole ≡ false → IsMore s t more
+skips_as : (s t : Reader) (place : Place) (bytes more : List ℕ) (n : ℕ) → s.place ≡ place → s.whole ≡ false → IsMore s t more
     → SkipsFront (midway place s.bytes s.count s.stored) (midway place (s.bytes ++ more) s.count s.stored) bytes n → SkipsFront s t bytes n
 skips_as s t place bytes more n at fresh p q =
-    subst (λ (x : Reading). SkipsFront x t bytes n) (sym (within_one s place at fresh))
-    (subst (λ (x : Reading). SkipsFront (midway place s.bytes s.count s.stored) x bytes n) (sym (more_is s t place more at fresh p)) q)
+    subst (λ (x : Reader). SkipsFront x t bytes n) (sym (within_one s place at fresh))
+    (subst (λ (x : Reader). SkipsFront (midway place s.bytes s.count s.stored) x bytes n) (sym (more_is s t place more at fresh p)) q)
 
 -- ---- characters of a line
 
@@ -123,7 +123,7 @@ skips_simple size came bytes count stored n few all room =
       count = refl;
     }
 
-pub skips_characters : (s t : Reading) (size : Option ℕ) (bytes : List ℕ) (n : ℕ) → s.place ≡ Line size Fresh → s.whole ≡ false → n < length bytes
+pub skips_characters : (s t : Reader) (size : Option ℕ) (bytes : List ℕ) (n : ℕ) → s.place ≡ Line size Fresh → s.whole ≡ false → n < length bytes
     → list_all is_simple (take n bytes) ≡ true → length s.bytes + n ≤ most_of size → IsMore s t (map code_of (take n bytes)) → SkipsFront s t bytes n
 skips_characters s t size bytes n at fresh few all room p =
     skips_as s t (Line size Fresh) bytes (map code_of (take n bytes)) n at fresh p (skips_simple size s.bytes bytes s.count s.stored n few all room)
@@ -163,7 +163,7 @@ skips_within size came bytes count stored n few room =
       count = refl;
     }
 
-pub skips_bytes : (s t : Reading) (size : ℕ) (bytes : List ℕ) (n : ℕ) → s.place ≡ Block size → s.whole ≡ false → n < length bytes → length s.bytes + n < size
+pub skips_bytes : (s t : Reader) (size : ℕ) (bytes : List ℕ) (n : ℕ) → s.place ≡ Block size → s.whole ≡ false → n < length bytes → length s.bytes + n < size
     → IsMore s t (take n bytes) → SkipsFront s t bytes n
 skips_bytes s t size bytes n at fresh few room p =
     skips_as s t (Block size) bytes (take n bytes) n at fresh p (skips_within size s.bytes bytes s.count s.stored n few room)

@@ -15,8 +15,8 @@ use Rattle.cms_names.specs.declared.name.Format.TheVariants.{F, V}
 use Rattle.cms_records.specs.Views.{fitted}
 use Rattle.mini_forms.specs.Page.{character_of, code_of, code_page}
 use Rattle.mini_forms.specs.Lines.{text_of, utf8, step_of, fresh_step, return_step, second_byte}
-use Rattle.mini_forms.specs.Writing.{line_of, shown, written}
-use Rattle.mini_forms.specs.Reading.{counted, ended_at, ends, line_fed, most_of, read_from, record_of, size_in, stored_size, whole_in}
+use Rattle.mini_forms.specs.Output.{line_of, shown, written}
+use Rattle.mini_forms.specs.RecordReads.{counted, ended_at, ends, line_fed, most_of, read_from, record_of, size_in, stored_size, whole_in}
 use Rattle.mini_forms.specs.Laws.{kept, size_of}
 use Rattle.mini_forms.specs.declared.form.Form.TheVariants as form
 use Rattle.mini_forms.specs.declared.form.FormFault.{FormFault}
@@ -28,7 +28,7 @@ use Rattle.mini_forms.specs.declared.step.Begun.TheVariants.{Fresh, LowHalf, Hig
 use Rattle.mini_forms.specs.declared.step.Step.{Step}
 use Rattle.mini_forms.specs.declared.step.Step.TheVariants.{Adds, Goes, Ends, NoCharacter, LoneReturn}
 use Rattle.mini_forms.proofs.Tables.{blank_character, code_fits, here, plain_character, plain_code}
-use Rattle.mini_forms.proofs.Trailing.{is_stripped, kept_before, kept_front, strip, strip_behind}
+use Rattle.mini_forms.proofs.TrailingBytes.{is_stripped, kept_before, kept_front, strip, strip_behind}
 use Rattle.mini_forms.proofs.Steps.{begins_next, behind, go, in_front, midway, next_byte, same_bound}
 use Rattle.mini_forms.proofs.Back.{IsWithin}
 

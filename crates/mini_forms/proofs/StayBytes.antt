@@ -8,7 +8,7 @@ use Rattle.std.proofs.lemmas.List.Elements.{All-head, All-tail}
 use Rattle.cms_fields.specs.Steps.{◌>>=◌}
 use Rattle.cms_model.specs.Records.{with_length}
 use Rattle.cms_records.specs.Views.{fitted}
-use Rattle.mini_forms.specs.Reading.{block_fed, counted, ended_at, ends, is_length, read_from, stored_fed, stored_size, whole_in}
+use Rattle.mini_forms.specs.RecordReads.{block_fed, counted, ended_at, ends, is_length, read_from, stored_fed, stored_size, whole_in}
 use Rattle.mini_forms.specs.Laws.{BinaryStays, RecordsStay}
 use Rattle.cms_names.specs.declared.name.Format.TheVariants.{F, V}
 use Rattle.mini_forms.specs.declared.form.FormFault.TheVariants.{BadLength}

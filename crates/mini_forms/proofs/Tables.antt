@@ -2,8 +2,8 @@
 use Rattle.std.proofs.Common.{◌≡◌, ℕ, suc, zero, ◌+◌, ◌<◌, ◌≤◌, Bool, true, false, ◌&&◌, ◌==◌, get_or, Option, Some, None, refl, arith, nat_lt, not, ⊎_elim, subst}
 use Rattle.std.proofs.lemmas.Bool.{and_parts, cases_lt, eqb-true, ltb-true}
 use Rattle.cms_ebcdic.specs.CodePage as printable
+use Rattle.mini_forms.specs.Output.{is_plain}
 use Rattle.mini_forms.specs.Page.{character_of, code_of, code_page}
-use Rattle.mini_forms.specs.Writing.{is_plain}
 use Rattle.mini_forms.specs.declared.page.TheConstants.{CHARACTERS, CODES}
 
 -- a test of n numbers, from k on

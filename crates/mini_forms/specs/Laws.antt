@@ -8,8 +8,8 @@ use Rattle.cms_names.specs.declared.name.Format.{Format}
 use Rattle.cms_names.specs.declared.name.Format.TheVariants.{F, V}
 use Rattle.cms_fields.specs.Limits.{longest_record, most_bytes, most_records}
 use Rattle.cms_model.specs.Records.{Fits, stored}
-use Rattle.mini_forms.specs.Writing.{is_line, written}
-use Rattle.mini_forms.specs.Reading.{records_in}
+use Rattle.mini_forms.specs.Output.{is_line, written}
+use Rattle.mini_forms.specs.RecordReads.{records_in}
 use Rattle.mini_forms.specs.declared.form.Form.{Form}
 use Rattle.mini_forms.specs.declared.form.Form.TheVariants as form
 use Rattle.mini_forms.specs.declared.form.Layout.{Layout}

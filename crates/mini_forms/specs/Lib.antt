@@ -1,7 +1,7 @@
 pub mod Page
 pub mod LawsPage
 pub mod Lines
-pub mod Writing
-pub mod Reading
+pub mod Output
+pub mod RecordReads
 pub mod Readers
 pub mod Laws

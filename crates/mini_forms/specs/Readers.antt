@@ -1,7 +1,7 @@
 -- What the fields of a reader always are.
 use Rattle.std.specs.Prelude.{◌≡◌, ℕ, ◌+◌, ◌≤◌, ◌<◌, Bool, true, false, IfSome, Option, None, Some, vec_len, vec_capacity}
 use Rattle.cms_fields.specs.Limits.{longest_record, most_bytes, most_records}
-use Rattle.mini_forms.specs.Reading.{most_of, size_in}
+use Rattle.mini_forms.specs.RecordReads.{most_of, size_in}
 use Rattle.mini_forms.specs.declared.place.Head.{Head}
 use Rattle.mini_forms.specs.declared.place.Head.TheVariants.{Start, High, Left}
 use Rattle.mini_forms.specs.declared.place.Place.{Place}

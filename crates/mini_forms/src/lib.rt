@@ -6,15 +6,15 @@
 
 mod form;
 mod laws;
+mod output;
 mod page;
 mod place;
 mod reader;
 mod run;
 mod step;
-mod writing;
 
 pub use form::{Form, FormFault, Layout};
 pub use laws::form_laws;
+pub use output::{is_line, write_record};
 pub use page::{character_of, code_of, page_laws};
 pub use reader::Reader;
-pub use writing::{is_line, write_record};

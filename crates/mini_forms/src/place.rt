@@ -1,7 +1,7 @@
 // A place in a host file, and the sizes of the records there.
 ghost use Rattle.std.specs.Prelude.{◌≡◌, ◌≤◌};
 ghost use Rattle.cms_fields.specs.Limits.{longest_record};
-ghost use Rattle.mini_forms.specs.Reading.{is_length, most_of, size_in, start_of, stored_size};
+ghost use Rattle.mini_forms.specs.RecordReads.{is_length, most_of, size_in, start_of, stored_size};
 
 use crate::form::Layout;
 use crate::step::Begun;

@@ -2,7 +2,7 @@
 ghost use Rattle.std.specs.Prelude.{◌≡◌, ◌≤◌, ◌<◌, true, false, length, IfOk};
 ghost use Rattle.cms_fields.specs.Limits.{longest_record};
 ghost use Rattle.cms_records.specs.Views.{fitted};
-ghost use Rattle.mini_forms.specs.Reading.{Gives, Skips, SkipsFront, begun, block_fed, counted, ended, ends, fed, finished, line_fed, number, record_of, size_in, start_of, stored_fed, unread};
+ghost use Rattle.mini_forms.specs.RecordReads.{Gives, Skips, SkipsFront, begun, block_fed, counted, ended, ends, fed, finished, line_fed, number, record_of, size_in, start_of, stored_fed, unread};
 ghost use Rattle.mini_forms.specs.Readers.{IsLength, IsSize};
 ghost use Rattle.mini_forms.specs.declared.place.Head.TheVariants.{High, Left};
 ghost use Rattle.mini_forms.specs.declared.place.Place.TheVariants.{Line, Block, Stored};
@@ -30,10 +30,10 @@ pub struct Reader {
 }
 
 impl Model for Reader {
-    ghost use Rattle.mini_forms.specs.Reading.{Reading};
+    ghost use Rattle.mini_forms.specs.RecordReads as reads;
     ghost use Rattle.mini_forms.specs.Readers.{AreSound};
 
-    ghost Value = { Reading };
+    ghost Value = { reads.Reader };
 
     ghost view = { λ r. record { place = r.place; bytes = r.bytes.items; whole = r.whole; count = r.count; stored = r.stored } };
 
@@ -81,7 +81,7 @@ impl Reader {
     }
 
     /// The host file ends here: says whether a last record is whole. `Empty` where there was none at all. It takes no memory.
-    #[tactic(auto, unfolding(crate::specs::Reading::ended_at))]
+    #[tactic(auto, unfolding(crate::specs::RecordReads::ended_at))]
     pub fn end(&mut self) -> Result<bool, FormFault>
         ensures { Gives result self.new (ended self.old) }
     {
@@ -140,7 +140,7 @@ impl Reader {
         Ok(true)
     }
 
-    #[tactic(auto, unfolding(crate::specs::Reading::line_fed))]
+    #[tactic(auto, unfolding(crate::specs::RecordReads::line_fed))]
     fn feed_line(&mut self, size: Option<u32>, step: Step) -> Result<bool, FormFault>
         requires size { size_in self.old.place ≡ size }
         requires begun { self.old.whole ≡ false }
@@ -158,7 +158,7 @@ impl Reader {
         }
     }
 
-    #[tactic(auto, unfolding(crate::specs::Reading::line_fed))]
+    #[tactic(auto, unfolding(crate::specs::RecordReads::line_fed))]
     fn add_character(&mut self, size: Option<u32>, character: u8) -> Result<bool, FormFault>
         requires size { size_in self.old.place ≡ size }
         requires begun { self.old.whole ≡ false }
@@ -173,7 +173,7 @@ impl Reader {
     }
 
     // A line's record is whole: filled with blanks to the size, and one blank where it would be empty.
-    #[tactic(auto, unfolding(crate::specs::Reading::record_of))]
+    #[tactic(auto, unfolding(crate::specs::RecordReads::record_of))]
     fn end_line(&mut self, size: Option<u32>) -> Result<bool, FormFault>
         requires size { size_in self.old.place ≡ size }
         requires begun { self.old.whole ≡ false }
@@ -233,7 +233,7 @@ impl Reader {
         count
     }
 
-    #[tactic(auto, unfolding(crate::specs::Reading::block_fed))]
+    #[tactic(auto, unfolding(crate::specs::RecordReads::block_fed))]
     fn feed_block(&mut self, size: u32, byte: u8) -> Result<bool, FormFault>
         requires place { self.old.place ≡ Block size }
         requires begun { self.old.whole ≡ false }
@@ -259,7 +259,7 @@ impl Reader {
         self.count_record()
     }
 
-    #[tactic(auto, unfolding(crate::specs::Reading::stored_fed))]
+    #[tactic(auto, unfolding(crate::specs::RecordReads::stored_fed))]
     fn feed_stored(&mut self, size: Option<u32>, head: Head, byte: u8) -> Result<bool, FormFault>
         requires place { self.old.place ≡ Stored size head }
         requires begun { self.old.whole ≡ false }
@@ -276,7 +276,7 @@ impl Reader {
     }
 
     // Both bytes of a length came.
-    #[tactic(auto, unfolding(crate::specs::Reading::stored_fed))]
+    #[tactic(auto, unfolding(crate::specs::RecordReads::stored_fed))]
     fn begin_stored(&mut self, size: Option<u32>, high: u8, byte: u8) -> Result<bool, FormFault>
         requires place { self.old.place ≡ Stored size (High high) }
         requires begun { self.old.whole ≡ false }
@@ -291,7 +291,7 @@ impl Reader {
     }
 
     // A byte of a record whose length came.
-    #[tactic(auto, unfolding(crate::specs::Reading::stored_fed))]
+    #[tactic(auto, unfolding(crate::specs::RecordReads::stored_fed))]
     fn feed_left(&mut self, size: Option<u32>, left: u32, byte: u8) -> Result<bool, FormFault>
         requires place { self.old.place ≡ Stored size (Left left) }
         requires begun { self.old.whole ≡ false }

@@ -12,8 +12,8 @@ use Rattle.clap.specs.declared.builder.command.Command.{Command}
 use Rattle.clap.specs.declared.builder.range.ValueRange.{ValueRange}
 use Rattle.mini_words.proofs.Each.{one_taken}
 use Rattle.mini_words.specs.Commands.{HasForm, are_plain, form_for, rule_for, with_forms, with_rules}
-use Rattle.mini_words.specs.declared.building.Argument.{Argument}
-use Rattle.mini_words.specs.declared.building.CommandForm.{CommandForm}
+use Rattle.mini_words.specs.declared.command_form.Argument.{Argument}
+use Rattle.mini_words.specs.declared.command_form.CommandForm.{CommandForm}
 
 pub arg_added : (old new : Command) (arg : Arg) (rule : Rule) (form : App) → AddsArg old arg new → arg.global ≡ false → rule_of arg ≡ rule
     → HasForm old form → HasForm new (with_rule form rule)

@@ -8,10 +8,10 @@ use Rattle.clap.specs.Words.{App, Row, Rule, Text, all_of, app_of, fault_of, fir
 use Rattle.clap.specs.declared.builder.action.ArgAction.TheVariants.{SetTrue}
 use Rattle.clap.specs.declared.builder.command.Command.{Command}
 use Rattle.clap.specs.declared.parser.matches.ArgMatches.{ArgMatches}
-use Rattle.mini_words.specs.declared.building.Argument.{Argument}
-use Rattle.mini_words.specs.declared.building.CommandForm.{CommandForm}
-use Rattle.mini_words.specs.declared.building.Kind.{Kind}
-use Rattle.mini_words.specs.declared.building.Kind.TheVariants.{Value, Needed, Flag, One, Many, Any}
+use Rattle.mini_words.specs.declared.command_form.Argument.{Argument}
+use Rattle.mini_words.specs.declared.command_form.CommandForm.{CommandForm}
+use Rattle.mini_words.specs.declared.command_form.Kind.{Kind}
+use Rattle.mini_words.specs.declared.command_form.Kind.TheVariants.{Value, Needed, Flag, One, Many, Any}
 
 -- an option that takes a value
 abbrev pub option_rule : Text → ℕ → Rule

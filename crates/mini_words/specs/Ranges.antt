@@ -2,7 +2,7 @@
 use Rattle.std.specs.Prelude.{◌≤◌, ⊤}
 use Rattle.cms_fields.specs.Offsets.{IsOffset}
 use Rattle.mini_forms.specs.Readers.{IsSize}
-use Rattle.mini_forms.specs.Reading.{size_in, start_of}
+use Rattle.mini_forms.specs.RecordReads.{size_in, start_of}
 use Rattle.mini_words.specs.declared.request.Request.{Request}
 use Rattle.mini_words.specs.declared.request.Request.TheVariants.{List as AskList, Info, Get, Put, Erase, Rename, Make, Check, Dump}
 

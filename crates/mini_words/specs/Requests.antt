@@ -10,7 +10,7 @@ use Rattle.mini_words.specs.Words.{◌>>=◌, blocks_of, digit_of, form_of, labe
 use Rattle.mini_words.specs.declared.fault.WordFault.{WordFault}
 use Rattle.mini_words.specs.declared.fault.WordFault.TheVariants.{Block, Name as BadName, NoCommand, NoName, OneFile, SaysNothing, TwoTargets}
 use Rattle.mini_words.specs.declared.names.NamePattern.{NamePattern}
-use Rattle.mini_words.specs.declared.reading.Manner.{Manner}
+use Rattle.mini_words.specs.declared.command_words.Manner.{Manner}
 use Rattle.mini_words.specs.declared.request.Image.{Image}
 use Rattle.mini_words.specs.declared.request.Request.{Request}
 use Rattle.mini_words.specs.declared.request.Request.TheVariants.{List as AskList, Info, Get, Put, Erase, Rename, Make, Check, Dump}

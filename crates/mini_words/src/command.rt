@@ -4,7 +4,7 @@ ghost use Rattle.clap.specs.Words.{found_of, kind_of, rows_of, subcommand_rows_o
 ghost use Rattle.clap.specs.declared.error.kind.ErrorKind.TheVariants.{OutOfMemory};
 ghost use Rattle.mini_words.specs.Commands.{HasForm, are_taken, command_in, minidisk, top_form};
 
-use crate::building::{Argument, CommandForm, Kind, new_command, with_commands};
+use crate::command_form::{Argument, CommandForm, Kind, new_command, with_commands};
 use clap::{ArgMatches, Command, Error};
 use std::alloc::{AllocError, Global};
 

@@ -3,17 +3,17 @@
 //! [`read_requests`] gives what they ask for, or the first word that is refused.
 #![tactic(auto)]
 
-mod building;
 mod command;
+mod command_form;
+mod command_words;
 mod fault;
 mod lists;
 mod names;
 mod numbers;
-mod reading;
 mod request;
 mod values;
 
+pub use command_words::read_requests;
 pub use fault::{Refused, WordFault};
 pub use names::{NamePattern, name};
-pub use reading::read_requests;
 pub use request::{Get, Image, Put, Request, Target};

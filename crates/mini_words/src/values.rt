@@ -3,7 +3,7 @@ ghost use Rattle.std.specs.Prelude.{◌≡◌, ◌≤◌, codes, map, option_map
 ghost use Rattle.cms_fields.specs.Offsets.{IsOffset};
 ghost use Rattle.cms_words.specs.UnitWords.{bsize_of};
 ghost use Rattle.mini_forms.specs.Readers.{IsSize};
-ghost use Rattle.mini_forms.specs.Reading.{size_in, start_of};
+ghost use Rattle.mini_forms.specs.RecordReads.{size_in, start_of};
 ghost use Rattle.mini_words.specs.Commands.{is_set, rows_in, text_in, value_in, values_in};
 ghost use Rattle.mini_words.specs.Words.{blocks_of, digit_of, form_of, form_word, label_word_of, layout_of, length_of, one_name_of, name_word_of, needed_size_of, size_of, zone_of};
 

@@ -6,19 +6,19 @@ use Rattle.cms_journal.specs.Causes.{Rose}
 use Rattle.cms_world.specs.Seen.{ChangesUnits, OnlyReads, Seen}
 use Rattle.cms_names.specs.declared.name.Name.{Name}
 use Rattle.cms_draft.specs.declared.shape.DraftShape.{DraftShape}
-use Rattle.cms_held.specs.Opening.{HeldVolume}
-use Rattle.cms_disk.specs.Changing.{IsChangeFault, IsDevices}
+use Rattle.cms_held.specs.HeldVolumes.{HeldVolume}
+use Rattle.cms_disk.specs.Changes.{IsChangeFault, IsDevices}
 use Rattle.cms_disk.specs.Disks.{Accessed}
 use Rattle.cms_disk.specs.Drafts.{IsDraftFault}
-use Rattle.cms_disk.specs.Making.{IsMakeFault}
+use Rattle.cms_disk.specs.EmptyMinidisks.{IsMakeFault}
 use Rattle.cms_disk.specs.declared.fault.DiskFault.{DiskFault}
 use Rattle.cms_disk.specs.declared.fault.DiskFault.TheVariants as disk
 use Rattle.mini_work.specs.Causes.{AreLater, Counts, HasCause, HasEnd, HasFileCause, OneRose, is_broken, is_failed, is_failure, is_file_failure, on_host, on_seen}
+use Rattle.mini_work.specs.CommandActs.{both}
 use Rattle.mini_work.specs.Faults.{fault_of}
-use Rattle.mini_work.specs.Going.{both}
 use Rattle.mini_work.specs.declared.fault.Fault.{Fault}
 use Rattle.mini_work.specs.declared.fault.Fault.TheVariants as fault
-use Rattle.mini_work.specs.declared.reading.FileFault.{FileFault}
+use Rattle.mini_work.specs.declared.host_records.FileFault.{FileFault}
 use Rattle.mini_work.specs.declared.status.Status.{Status}
 use Rattle.mini_work.specs.declared.status.Status.TheVariants as status
 

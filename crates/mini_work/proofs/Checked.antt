@@ -8,22 +8,22 @@ use Rattle.cms_model.specs.Trees.{Image, image_of}
 use Rattle.cms_model.specs.Volumes.{Disk, Opened, open_of}
 use Rattle.cms_model.specs.declared.fault.OpenFault.{OpenFault}
 use Rattle.cms_model.specs.declared.fault.OpenFault.TheVariants as open_fault
-use Rattle.cms_held.specs.Opening.{AnswersOpening, HeldVolume, Holding, IsFaultOf, held_of}
+use Rattle.cms_held.specs.HeldVolumes.{AnswersOpening, HeldVolume, Held, IsFaultOf, held_of}
 use Rattle.cms_disk.specs.Disks.{disk_on}
 use Rattle.cms_disk.specs.declared.unit.UnitInfo.{UnitInfo}
-use Rattle.mini_work.specs.Checking.{Fails, Holds, IsShowing, IsShut, Shows, failed, is_test, shut, sound}
-use Rattle.mini_work.specs.Opening.{Attaches, IsNew, IsUnwritten}
+use Rattle.mini_work.specs.Checks.{Fails, Holds, IsShowing, IsShut, Shows, failed, is_test, shut, sound}
+use Rattle.mini_work.specs.OpenedImages.{Attaches, IsNew, IsUnwritten}
 use Rattle.mini_work.specs.declared.fault.Fault.{Fault}
 use Rattle.mini_work.specs.declared.status.Status.{Status}
 use Rattle.mini_work.specs.declared.status.Status.TheVariants as status
-use Rattle.mini_work.proofs.Starting.{alone, starts}
+use Rattle.mini_work.proofs.LoneUnit.{alone, starts}
 
 -- what the opening answers, of the image of the unit
-abbrev pub Answers : Told → UnitInfo → Result Holding OpenFault → Type 0
+abbrev pub Answers : Told → UnitInfo → Result Held OpenFault → Type 0
 Answers told info r = ForSome told (λ j. AnswersOpening info.unit.number (disk_on info) (now j info.unit.number) r)
 
 -- the volume that opens
-pub holds_on : (name : List ℕ) (size : ℕ) (old new : Told) (info : UnitInfo) (h : Holding) → Attaches name size ReadOnly old info
+pub holds_on : (name : List ℕ) (size : ℕ) (old new : Told) (info : UnitInfo) (h : Held) → Attaches name size ReadOnly old info
     → Answers old info (Ok h) → new ≡ old → Holds name new h.volume
 holds_on name size old new info h a answers same = subst (λ (t : Told). Holds name t h.volume) (sym same) found
   where

@@ -5,7 +5,7 @@ use Rattle.std.specs.List.{list_any}
 use Rattle.std.proofs.lemmas.List.Folds.{list_any-append}
 use Rattle.cms_names.specs.declared.name.Name.{Name}
 use Rattle.mini_words.specs.declared.names.NamePattern.{NamePattern}
-use Rattle.mini_work.specs.Choosing.{chosen, fitting, idle_status, is_idle}
+use Rattle.mini_work.specs.ChosenFiles.{chosen, fitting, idle_status, is_idle}
 use Rattle.mini_work.proofs.Listed.{take_more}
 use Rattle.mini_work.specs.declared.status.Status.{Status}
 use Rattle.mini_work.specs.declared.status.Status.TheVariants as status

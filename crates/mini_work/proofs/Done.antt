@@ -10,10 +10,10 @@ use Rattle.mini_words.specs.declared.names.NamePattern.{NamePattern}
 use Rattle.mini_words.specs.declared.request.Image.{Image}
 use Rattle.mini_words.specs.declared.request.Request.{Request}
 use Rattle.mini_words.specs.declared.request.Request.TheVariants as ask
-use Rattle.mini_work.specs.Going.{Act}
-use Rattle.mini_work.specs.Making.{IsMaking}
+use Rattle.mini_work.specs.CommandActs.{Act}
+use Rattle.mini_work.specs.Commands.{IsErasing, IsListing, IsRenaming, IsWorked, opened, shut}
+use Rattle.mini_work.specs.NewImages.{IsMaking}
 use Rattle.mini_work.specs.Requests.{IsDone}
-use Rattle.mini_work.specs.Working.{IsErasing, IsListing, IsRenaming, IsWorked, opened, shut}
 use Rattle.mini_work.specs.declared.fault.Fault.{Fault}
 use Rattle.mini_work.specs.declared.status.Status.{Status}
 

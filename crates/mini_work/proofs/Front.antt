@@ -8,7 +8,7 @@ use Rattle.std.proofs.lemmas.List.{length-drop, take-append-le, take_all, take_a
 use Rattle.std.proofs.lemmas.Option.{same_Some}
 use borrow.Rule.Slice.PartMut.{mid_of, put_mid, same_len_mid}
 use Rattle.mini_host.specs.Files.{Files, read_on}
-use Rattle.mini_work.specs.Hosting.{SameFiles, things_in}
+use Rattle.mini_work.specs.HostTold.{SameFiles, things_in}
 
 -- of what was left of the open file so many bytes were read into the front of a buffer
 pub record IsRead (first now : Option Files) (into : List ℕ) (count : ℕ) : Type 0 where

@@ -14,24 +14,24 @@ use Rattle.mini_host.specs.declared.content.HostFile.{HostFile}
 use Rattle.mini_words.specs.declared.request.Get.{Get}
 use Rattle.mini_words.specs.declared.request.Target.{Target}
 use Rattle.mini_words.specs.declared.request.Target.TheVariants as targets
-use Rattle.cms_held.specs.Opening.{names_in}
-use Rattle.mini_work.specs.Choosing.{chosen, idle_status}
-use Rattle.mini_work.specs.Going.{Act, Asked, Came, Continues, Cut, Denied, Did, Goes, Kept, Said, both, none, one}
-use Rattle.mini_work.specs.Getting.{HasNoFolder, Hosts, IsBarred, IsGetting, IsGotBy, IsGotEach, IsGotTo, IsHanded, IsJoined, IsTyped, OnHost, files_after, folder_of}
-use Rattle.mini_work.specs.Hosting.{Noted, SameFiles, files_in}
-use Rattle.mini_work.specs.Handing.{GetsOne, Hands, PutsFront, shown_in}
-use Rattle.mini_work.specs.Standing.{Stands}
-use Rattle.mini_work.specs.Working.{names_of}
+use Rattle.cms_held.specs.HeldVolumes.{names_in}
+use Rattle.mini_work.specs.ChosenFiles.{chosen, idle_status}
+use Rattle.mini_work.specs.CommandActs.{Act, Asked, Came, Continues, Cut, Denied, Did, Goes, Kept, Said, both, none, one}
+use Rattle.mini_work.specs.Gets.{HasNoFolder, Hosts, IsBarred, IsGetting, IsGotBy, IsGotEach, IsGotTo, IsHanded, IsJoined, IsTyped, OnHost, files_after, folder_of}
+use Rattle.mini_work.specs.HostTold.{Noted, SameFiles, files_in}
+use Rattle.mini_work.specs.HandedFiles.{GetsOne, Hands, PutsFront, shown_in}
+use Rattle.mini_work.specs.Stands.{Stands}
+use Rattle.mini_work.specs.Commands.{names_of}
 use Rattle.mini_work.specs.declared.fault.Fault.{Fault}
-use Rattle.mini_work.specs.declared.handing.Way.{Way}
-use Rattle.mini_work.specs.declared.handing.Way.TheVariants as ways
+use Rattle.mini_work.specs.declared.handed_file.Way.{Way}
+use Rattle.mini_work.specs.declared.handed_file.Way.TheVariants as ways
 use Rattle.mini_work.specs.declared.status.Status.{Status}
 use Rattle.mini_work.specs.declared.status.Status.TheVariants as status
 use Rattle.mini_work.proofs.HandedOut.{front_none}
 use Rattle.mini_work.proofs.Hosted.{files_of, files_same, folders_same, same_noted}
 use Rattle.mini_work.proofs.Listed.{take_more}
 use Rattle.mini_work.proofs.Worked.{names_told}
-use Rattle.mini_work.proofs.Standing.{came_said, came_still, cut_here, cut_typing}
+use Rattle.mini_work.proofs.UnitStands.{came_said, came_still, cut_here, cut_typing}
 
 -- ---- a file
 

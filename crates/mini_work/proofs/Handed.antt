@@ -9,22 +9,22 @@ use Rattle.cms_journal.proofs.Pieces.{grown_same, plus-some, plus_plus, typed-ap
 use Rattle.cms_machine.specs.Beats.{IsTyped}
 use Rattle.cms_model.specs.LawsUpdates.{after, now}
 use Rattle.cms_model.specs.Trees.{Image, image_of}
-use Rattle.cms_model.proofs.Settling.{aside_is_as_before}
+use Rattle.cms_model.proofs.SettledUnits.{aside_is_as_before}
 use Rattle.cms_names.specs.declared.name.Format.{Format}
-use Rattle.cms_disk.specs.Cursors.{HasLeft, Reading, text_of}
-use Rattle.cms_line.specs.Typing.{TypedPart, TypedTo}
+use Rattle.cms_disk.specs.Cursors.{HasLeft, Cursor, text_of}
+use Rattle.cms_line.specs.Typed.{TypedPart, TypedTo}
 use Rattle.cms_line.proofs.TypedLines.{typed_none}
-use Rattle.mini_forms.specs.Writing.{one_written, written}
+use Rattle.mini_forms.specs.Output.{one_written, written}
 use Rattle.mini_forms.specs.declared.form.Form.{Form}
 use Rattle.mini_host.specs.Files as files
 use Rattle.mini_host.specs.Files.{Files, with_more}
 use Rattle.mini_host.specs.declared.content.Draft.{Draft}
-use Rattle.mini_work.specs.Handing.{Puts, PutsOut, PutsPart}
+use Rattle.mini_work.specs.HandedFiles.{Puts, PutsOut, PutsPart}
 use Rattle.mini_work.specs.declared.fault.Fault.{Fault}
 use Rattle.mini_work.proofs.ReadOn.{ReadsNext, one_more}
-use Rattle.mini_work.proofs.Standing.{typed_aside}
-use Rattle.mini_work.specs.declared.handing.Way.{Way}
-use Rattle.mini_work.specs.declared.handing.Way.TheVariants as ways
+use Rattle.mini_work.proofs.UnitStands.{typed_aside}
+use Rattle.mini_work.specs.declared.handed_file.Way.{Way}
+use Rattle.mini_work.specs.declared.handed_file.Way.TheVariants as ways
 
 -- ---- what is typed
 
@@ -126,13 +126,13 @@ stays_there ways.File mid new k l bytes at u is p = (at, p.0 ∙ is, refl)
 -- ---- the records one after another
 
 -- of the records that were left so many were read, and exactly what the form writes of them was put out
-abbrev pub PutsTo : Way → Form → Format → Told → Told → Option Files → Option Files → Reading → Reading → Type 0
+abbrev pub PutsTo : Way → Form → Format → Told → Told → Option Files → Option Files → Cursor → Cursor → Type 0
 PutsTo way form format old told h k first c =
     (j : Journal) (records : List (List ℕ)) → old ≡ Some j → HasLeft (now j first.unit) first records
     → (done : List (List ℕ)) × (left : List (List ℕ)) × (records ≡ done ++ left) × (at : Journal) × (told ≡ Some at)
     × (now at first.unit ≡ now j first.unit) × HasLeft (now j first.unit) c left × PutsOut way old told h k (written form format done)
 
-pub puts_first : (way : Way) (form : Form) (format : Format) (told : Told) (h : Option Files) (c : Reading) → PutsTo way form format told told h h c c
+pub puts_first : (way : Way) (form : Form) (format : Format) (told : Told) (h : Option Files) (c : Cursor) → PutsTo way form format told told h h c c
 puts_first way form format told h c = λ j records is has. ([], records, refl, j, is, refl, has, puts_none way told h)
 
 written_more : (form : Form) (format : Format) (done : List (List ℕ)) (text : List ℕ)
@@ -149,7 +149,7 @@ written_both form format (x ∷ done) left =
     ap (λ (z : List ℕ). one_written form format x ++ z) (written_both form format done left)
     ∙ sym (append_assoc (one_written form format x) (written form format done) (written form format left))
 
-pub puts_next : (way : Way) (form : Form) (format : Format) (old mid new : Told) (h k l : Option Files) (first c next : Reading) (bytes : List ℕ)
+pub puts_next : (way : Way) (form : Form) (format : Format) (old mid new : Told) (h k l : Option Files) (first c next : Cursor) (bytes : List ℕ)
     → PutsTo way form format old mid h k first c → ReadsNext mid first c next true → bytes ≡ one_written form format (text_of next)
     → PutsOut way mid new k l bytes → PutsTo way form format old new h l first next
 puts_next way form format old mid new h k l first c next bytes to reads is put = λ j records at has.
@@ -169,7 +169,7 @@ puts_next way form format old mid new h k l first c next bytes to reads is put =
     )
 
 -- all of them
-pub puts_all : (way : Way) (form : Form) (format : Format) (old told : Told) (h k : Option Files) (first c next : Reading)
+pub puts_all : (way : Way) (form : Form) (format : Format) (old told : Told) (h k : Option Files) (first c next : Cursor)
     → PutsTo way form format old told h k first c → ReadsNext told first c next false
     → (j : Journal) (records : List (List ℕ)) → old ≡ Some j → HasLeft (now j first.unit) first records
     → PutsOut way old told h k (written form format records)
@@ -180,7 +180,7 @@ puts_all way form format old told h k first c next to reads = λ j records at ha
     subst (λ (xs : List (List ℕ)). PutsOut way old told h k (written form format xs)) all i.7
 
 -- or a front of them, where a read failed
-pub puts_stopped : (way : Way) (form : Form) (format : Format) (old told : Told) (h k : Option Files) (first c : Reading)
+pub puts_stopped : (way : Way) (form : Form) (format : Format) (old told : Told) (h k : Option Files) (first c : Cursor)
     → PutsTo way form format old told h k first c → (j : Journal) (records : List (List ℕ)) → old ≡ Some j
     → HasLeft (now j first.unit) first records → PutsPart way old told (written form format records)
 puts_stopped way form format old told h k first c to = λ j records at has.
@@ -190,7 +190,7 @@ puts_stopped way form format old told h k first c to = λ j records at has.
     (sym (ap (λ (xs : List (List ℕ)). written form format xs) i.2 ∙ written_both form format i.0 i.1)) part
 
 -- or where it wasn't put out whole
-pub puts_broken : (way : Way) (form : Form) (format : Format) (old mid new : Told) (h k : Option Files) (first c next : Reading) (bytes : List ℕ)
+pub puts_broken : (way : Way) (form : Form) (format : Format) (old mid new : Told) (h k : Option Files) (first c next : Cursor) (bytes : List ℕ)
     → PutsTo way form format old mid h k first c → ReadsNext mid first c next true → bytes ≡ one_written form format (text_of next)
     → PutsPart way mid new bytes → (j : Journal) (records : List (List ℕ)) → old ≡ Some j → HasLeft (now j first.unit) first records
     → PutsPart way old new (written form format records)

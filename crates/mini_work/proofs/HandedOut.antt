@@ -12,22 +12,22 @@ use Rattle.cms_names.specs.declared.name.Name.{Name}
 use Rattle.cms_model.specs.Changes.{file_named}
 use Rattle.cms_model.specs.LawsUpdates.{now}
 use Rattle.cms_model.specs.Minidisks.{File, Minidisk}
-use Rattle.cms_held.specs.Opening.{HeldFile}
-use Rattle.cms_edf.specs.Asking.{info_of}
+use Rattle.cms_held.specs.HeldVolumes.{HeldFile}
+use Rattle.cms_edf.specs.FilesTold.{info_of}
 use Rattle.cms_edf.specs.declared.held.FileInfo.{FileInfo}
-use Rattle.cms_disk.specs.Cursors.{HasLeft, Reading, SameFile}
+use Rattle.cms_disk.specs.Cursors.{HasLeft, Cursor, SameFile}
 use Rattle.cms_copyfile.proofs.CopyPasses.{units_grown}
 use Rattle.cms_disk.specs.Disks.{Accessed, IsReadable, OpensIn, StartsAt}
-use Rattle.cms_disk.proofs.Standing.{named_at}
-use Rattle.mini_forms.specs.Writing.{is_line, written}
+use Rattle.cms_disk.proofs.DisksTold.{named_at}
+use Rattle.mini_forms.specs.Output.{is_line, written}
 use Rattle.mini_forms.specs.declared.form.Form.{Form}
 use Rattle.mini_host.specs.Files.{Files}
-use Rattle.mini_work.specs.Handing.{Hands, IsInfoOf, PutsFront, PutsOut, PutsPart, Puts, can_show, shown_in, shown_of}
-use Rattle.mini_work.specs.Hosting.{SameFiles, things_in}
-use Rattle.mini_work.specs.Standing.{Stands}
+use Rattle.mini_work.specs.HandedFiles.{Hands, IsInfoOf, PutsFront, PutsOut, PutsPart, Puts, can_show, shown_in, shown_of}
+use Rattle.mini_work.specs.HostTold.{SameFiles, things_in}
+use Rattle.mini_work.specs.Stands.{Stands}
 use Rattle.mini_work.specs.declared.fault.Fault.{Fault}
-use Rattle.mini_work.specs.declared.handing.Way.{Way}
-use Rattle.mini_work.specs.declared.handing.Way.TheVariants as ways
+use Rattle.mini_work.specs.declared.handed_file.Way.{Way}
+use Rattle.mini_work.specs.declared.handed_file.Way.TheVariants as ways
 use Rattle.mini_work.proofs.Handed.{part_none}
 
 -- ---- the file of a name
@@ -67,7 +67,7 @@ cannot_so form f is = ap (λ (b : Bool). if b then Some (written form f.format f
 -- ---- it is opened
 
 -- its records are those that are left at first
-pub opened_left : (told : Told) (d : Accessed) (m : Minidisk) (name : Name) (f : File) (c : Reading) (s : Stands told d m) → OpensIn d name c
+pub opened_left : (told : Told) (d : Accessed) (m : Minidisk) (name : Name) (f : File) (c : Cursor) (s : Stands told d m) → OpensIn d name c
     → file_named name m.files ≡ Some f → HasLeft (now s.at d.volume.unit) c f.records
 opened_left told d m name f c s opens named =
     let o = opens (now s.at d.volume.unit) m s.minidisk.stands in
@@ -102,12 +102,12 @@ pub hands_failed : (way : Way) (old new : Told) (h k : Option Files) (text : Opt
 hands_failed way old new h k text r why is front = subst (λ (x : Result Bool Fault). Hands way old new h k text x) (sym is) front
 
 -- what handing out the records says, of the file that was opened
-abbrev pub PutsEach : {A : Type 0} → Way → Form → Format → Told → Told → Option Files → Option Files → Reading → Result A Fault → Type 0
+abbrev pub PutsEach : {A : Type 0} → Way → Form → Format → Told → Told → Option Files → Option Files → Cursor → Result A Fault → Type 0
 PutsEach way form format old new h k c r =
     (j : Journal) (records : List (List ℕ)) → old ≡ Some j → HasLeft (now j c.unit) c records → Puts way old new h k (written form format records) r
 
 pub puts_file : {A : Type 0} (way : Way) (form : Form) (told new : Told) (h k : Option Files) (d : Accessed) (m : Minidisk) (name : Name) (info : FileInfo)
-    (f : FileOf m name info) (c : Reading) (r : Result A Fault) → Stands told d m → OpensIn d name c → c.unit ≡ d.volume.unit
+    (f : FileOf m name info) (c : Cursor) (r : Result A Fault) → Stands told d m → OpensIn d name c → c.unit ≡ d.volume.unit
     → PutsEach way form info.format told new h k c r → Puts way told new h k (written form f.file.format f.file.records) r
 puts_file way form told new h k d m name info f c r s opens unit puts =
     let has = opened_left told d m name f.file c s opens f.named in
@@ -115,7 +115,7 @@ puts_file way form told new h k d m name info f c r s opens unit puts =
     (puts s.at f.file.records s.told_is (subst (λ (u : ℕ). HasLeft (now s.at u) c f.file.records) (sym unit) has))
 
 -- whether they are lines
-pub shows_lines : (told : Told) (d : Accessed) (name : Name) (c : Reading) (r : Result Bool Fault)
+pub shows_lines : (told : Told) (d : Accessed) (name : Name) (c : Cursor) (r : Result Bool Fault)
     → IfOk r (λ all. (j : Journal) (records : List (List ℕ)) → told ≡ Some j → HasLeft (now j c.unit) c records → all ≡ list_all is_line records)
     → OpensIn d name c → c.unit ≡ d.volume.unit
     → IfOk r (λ shown. (m : Minidisk) (f : File) → Stands told d m → file_named name m.files ≡ Some f → shown ≡ list_all is_line f.records)
@@ -124,7 +124,7 @@ shows_lines told d name c (Ok all) lines opens unit = λ m f s named.
 shows_lines told d name c (Err why) lines opens unit = tt
 
 -- its blocks may be read
-pub opened_blocks : (told : Told) (d : Accessed) (name : Name) (c : Reading) → StartsAt name d.volume c → ForSome told (λ j. IsReadable j d)
+pub opened_blocks : (told : Told) (d : Accessed) (name : Name) (c : Cursor) → StartsAt name d.volume c → ForSome told (λ j. IsReadable j d)
     → ForSome told (λ j. HasBlocks j.units c.unit c.total c.bsize)
 opened_blocks told d name c start may = λ j is.
     let f = start.first in
@@ -143,7 +143,7 @@ pub blocks_grown : (old new : Told) (u count size : ℕ) → Grown old new → F
     → ForSome new (λ j. HasBlocks j.units u count size)
 blocks_grown old new u count size grown has = units_grown old new (λ (us : List Attached). HasBlocks us u count size) grown has
 
-pub blocks_same : (told : Told) (c next : Reading) → SameFile c next → ForSome told (λ j. HasBlocks j.units c.unit c.total c.bsize)
+pub blocks_same : (told : Told) (c next : Cursor) → SameFile c next → ForSome told (λ j. HasBlocks j.units c.unit c.total c.bsize)
     → ForSome told (λ j. HasBlocks j.units next.unit next.total next.bsize)
 blocks_same told c next same has = λ j is.
     subst (λ (u : ℕ). HasBlocks j.units u next.total next.bsize) (sym same.unit)

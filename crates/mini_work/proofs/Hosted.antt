@@ -4,15 +4,15 @@ use Rattle.std.specs.Prelude.{IsSome}
 use Rattle.std.specs.Option.{ForSome, option_map}
 use Rattle.std.proofs.lemmas.Option.{same_Some}
 use Rattle.cms_copyfile.specs.declared.measure.Measure.{Measure}
-use Rattle.mini_forms.specs.Reading.{records_in}
+use Rattle.mini_forms.specs.RecordReads.{records_in}
 use Rattle.mini_forms.specs.declared.form.FormFault.{FormFault}
 use Rattle.mini_forms.specs.declared.form.Layout.{Layout}
 use Rattle.mini_host.specs.Files as files
 use Rattle.mini_host.specs.Files.{Files, content_of}
 use Rattle.mini_host.specs.declared.content.HostFile.{HostFile}
-use Rattle.mini_work.specs.Drafting.{IsMeasuredFor, IsOpenAt, IsThere}
-use Rattle.mini_work.specs.Reading.{IsMeasured, IsNoFile, IsOpen, IsReadOn}
-use Rattle.mini_work.specs.Hosting.{Noted, SameFiles, files_in, things_in}
+use Rattle.mini_work.specs.Drafts.{IsMeasuredFor, IsOpenAt, IsThere}
+use Rattle.mini_work.specs.HostRecords.{IsMeasured, IsNoFile, IsOpen, IsReadOn}
+use Rattle.mini_work.specs.HostTold.{Noted, SameFiles, files_in, things_in}
 
 pub same_noted : (old new : Option Files) → Noted old new → SameFiles old new
 same_noted None new n = ap things_in n.1

@@ -17,20 +17,20 @@ use Rattle.mini_host.specs.Files.{Files, with_more}
 use Rattle.mini_host.specs.declared.content.Draft.{Draft}
 use Rattle.mini_host.specs.declared.content.HostFile.{HostFile}
 use Rattle.mini_words.specs.declared.request.Get.{Get}
-use Rattle.mini_work.specs.Changing.{IsTold, said_if}
-use Rattle.mini_work.specs.Going.{Act, Came, Continues, Cut, Kept, Said, Went, both}
-use Rattle.mini_work.specs.Getting.{AreSaid, Begins, HasNoFolder, Hosts, IsBarred, IsGotAs, IsGotTo, IsJoined, IsPlaced, Keeps, OnHost, RefusesFor, WritesAll, WritesMore, files_after, folder_of, joined, joined_acts, joined_status, names_said, path_of, shown_names}
-use Rattle.mini_work.specs.Hosting.{Noted, SameFiles, files_in}
-use Rattle.mini_work.specs.Handing.{GetsOne, IsBegun, PutsFront, shown_in}
-use Rattle.mini_work.specs.Saying.{name_line}
-use Rattle.mini_work.specs.Standing.{Stands}
+use Rattle.mini_work.specs.Changes.{IsTold, said_if}
+use Rattle.mini_work.specs.CommandActs.{Act, Came, Continues, Cut, Kept, Said, Went, both}
+use Rattle.mini_work.specs.Gets.{AreSaid, Begins, HasNoFolder, Hosts, IsBarred, IsGotAs, IsGotTo, IsJoined, IsPlaced, Keeps, OnHost, RefusesFor, WritesAll, WritesMore, files_after, folder_of, joined, joined_acts, joined_status, names_said, path_of, shown_names}
+use Rattle.mini_work.specs.HostTold.{Noted, SameFiles, files_in}
+use Rattle.mini_work.specs.HandedFiles.{GetsOne, IsBegun, PutsFront, shown_in}
+use Rattle.mini_work.specs.Output.{name_line}
+use Rattle.mini_work.specs.Stands.{Stands}
 use Rattle.mini_work.specs.declared.fault.Fault.{Fault}
-use Rattle.mini_work.specs.declared.handing.Way.TheVariants as ways
+use Rattle.mini_work.specs.declared.handed_file.Way.TheVariants as ways
 use Rattle.mini_work.specs.declared.status.Status.{Status}
 use Rattle.mini_work.specs.declared.status.Status.TheVariants as status
 use Rattle.mini_work.proofs.GotOut.{hosts_still}
 use Rattle.mini_work.proofs.Hosted.{files_same}
-use Rattle.mini_work.proofs.Standing.{came_kept, came_still, cut_here, stands_aside, stands_same, typed_aside}
+use Rattle.mini_work.proofs.UnitStands.{came_kept, came_still, cut_here, stands_aside, stands_same, typed_aside}
 
 -- ---- what is said behind a host file
 

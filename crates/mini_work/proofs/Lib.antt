@@ -1,6 +1,6 @@
-pub mod Standing
-pub mod Leading
-pub mod Starting
+pub mod UnitStands
+pub mod PartsJoined
+pub mod LoneUnit
 pub mod Worked
 pub mod Checked
 pub mod Columns

@@ -2,15 +2,15 @@
 use Rattle.std.proofs.Common.{◌≡◌, ℕ, zero, suc, ◌+◌, ◌≤◌, List, [], ◌∷◌, ◌++◌, length, Some, Ok, map, ap, sym, subst, take, slice_get, add-one}
 use Rattle.std.proofs.lemmas.List.{take_all}
 use Rattle.std.proofs.lemmas.Option.{same_Some}
-use Rattle.cms_held.specs.Opening.{HeldFile, HeldVolume, names_in}
-use Rattle.cms_edf.specs.Asking.{info_of, infos_in}
+use Rattle.cms_held.specs.HeldVolumes.{HeldFile, HeldVolume, names_in}
+use Rattle.cms_edf.specs.FilesTold.{info_of, infos_in}
 use Rattle.cms_edf.specs.declared.held.FileInfo.{FileInfo}
 use Rattle.cms_journal.specs.Told.{Told}
 use Rattle.cms_model.specs.Minidisks.{Minidisk}
 use Rattle.cms_disk.specs.Disks.{Accessed}
-use Rattle.mini_work.specs.Going.{Act, Continues, Goes, both}
+use Rattle.mini_work.specs.CommandActs.{Act, Continues, Goes, both}
 use Rattle.mini_work.specs.declared.status.Status.{Status}
-use Rattle.mini_work.proofs.Leading.{goes_more}
+use Rattle.mini_work.proofs.PartsJoined.{goes_more}
 
 -- one item more
 take_next : {A : Type 0} (xs : List A) (n : ℕ) (x : A) → slice_get xs n ≡ Some x → take (suc n) xs ≡ take n xs ++ x ∷ []

@@ -11,16 +11,16 @@ use Rattle.cms_model.specs.Minidisks.{State}
 use Rattle.cms_model.specs.Trees.{image_of}
 use Rattle.cms_model.specs.Volumes.{Disk, state_of}
 use Rattle.cms_disk.specs.Disks.{Accessed, disk_on}
-use Rattle.cms_disk.specs.Making.{Formats, IsReady}
+use Rattle.cms_disk.specs.EmptyMinidisks.{Formats, IsReady}
 use Rattle.cms_disk.specs.declared.fault.DiskFault.{DiskFault}
 use Rattle.cms_disk.specs.declared.unit.UnitInfo.{UnitInfo}
-use Rattle.mini_work.specs.Changing.{Asks, stamp_at}
-use Rattle.mini_work.specs.Making.{IsMaking, Makes, first_state, made, shut}
-use Rattle.mini_work.specs.Opening.{Attaches, IsUnwritten}
+use Rattle.mini_work.specs.Changes.{Asks, stamp_at}
+use Rattle.mini_work.specs.NewImages.{IsMaking, Makes, first_state, made, shut}
+use Rattle.mini_work.specs.OpenedImages.{Attaches, IsUnwritten}
 use Rattle.mini_work.specs.declared.fault.Fault.{Fault}
 use Rattle.mini_work.specs.declared.status.Status.{Status}
 use Rattle.mini_work.specs.declared.status.Status.TheVariants as status
-use Rattle.mini_work.proofs.Starting.{alone, starts}
+use Rattle.mini_work.proofs.LoneUnit.{alone, starts}
 
 -- behind the clock the unit is as it was attached
 pub formats_on : (name : List ℕ) (size : ℕ) (access : Access) (old mid new : Told) (info : UnitInfo) (a : Attaches name size access old info)

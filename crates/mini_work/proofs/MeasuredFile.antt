@@ -13,19 +13,19 @@ use Rattle.cms_model.proofs.Records.{length-with_length, length_stored_fixed}
 use Rattle.cms_fields.specs.declared.time.Stamp.{Stamp}
 use Rattle.cms_held.specs.Kept.{IsSized}
 use Rattle.cms_edf.specs.FileDrafts.{CanDraft}
-use Rattle.cms_draft.specs.Drafting.{HaveShape}
+use Rattle.cms_draft.specs.FileWriters.{HaveShape}
 use Rattle.cms_draft.specs.declared.shape.DraftShape.{DraftShape}
 use Rattle.cms_copyfile.specs.Measures.{measured}
 use Rattle.cms_copyfile.specs.declared.measure.Measure.{Measure}
 use Rattle.mini_forms.specs.Readers.{IsSize}
-use Rattle.mini_forms.specs.Reading.{Reading, read_from, size_in, start_of, unread}
+use Rattle.mini_forms.specs.RecordReads.{Reader, read_from, size_in, start_of, unread}
 use Rattle.mini_forms.specs.declared.form.FormFault.{FormFault}
 use Rattle.mini_forms.specs.declared.form.Layout.{Layout}
 use Rattle.mini_forms.specs.declared.form.Layout.TheVariants.{Binary, Records, Text}
 use Rattle.mini_host.specs.Files.{Files}
-use Rattle.mini_work.specs.Drafting.{IsShapeOf}
+use Rattle.mini_work.specs.Drafts.{IsShapeOf}
+use Rattle.mini_work.specs.HostRecords.{AreSized, IsCounted, IsMeasured, IsNoFile, IsReadOn, MeasuresLast, MeasuresTo, Reads, with_left}
 use Rattle.mini_work.specs.Layouts.{format_of, size_of, size_or, sized}
-use Rattle.mini_work.specs.Reading.{AreSized, IsCounted, IsMeasured, IsNoFile, IsReadOn, MeasuresLast, MeasuresTo, Reads, with_left}
 use Rattle.mini_work.proofs.Fed.{fault_behind, reads_none, reads_then, records_behind}
 
 -- ---- what a layout says
@@ -43,7 +43,7 @@ size_is (Records size) = refl
 -- ---- as far as the file was read
 
 -- the records that came were measured, and where the host tells its files, the open one is read as far
-pub record MeasuredTo (told now : Option Files) (layout : Layout) (s : Reading) (m : Measure) : Type 0 where
+pub record MeasuredTo (told now : Option Files) (layout : Layout) (s : Reader) (m : Measure) : Type 0 where
   pub came : List (List ℕ)
   pub measure : m ≡ measured (sized (size_in (start_of layout))) came
   pub each : AreSized (size_in (start_of layout)) came
@@ -78,7 +78,7 @@ ReadsMore mid new n into = (h : Files) (left : List ℕ) → mid ≡ Some h → 
 pub split_at : (n : ℕ) (left into text : List ℕ) → take n into ≡ take n left → text ≡ take n into → text ++ drop n left ≡ left
 split_at n left into text same is = ap (λ (x : List ℕ). x ++ drop n left) (is ∙ same) ∙ take-append-drop n left
 
-pub measured_more : (told mid new : Option Files) (layout : Layout) (s t : Reading) (m o : Measure) (n : ℕ) (into text : List ℕ)
+pub measured_more : (told mid new : Option Files) (layout : Layout) (s t : Reader) (m o : Measure) (n : ℕ) (into text : List ℕ)
     → MeasuredTo told mid layout s m → ReadsMore mid new n into → text ≡ take n into → MeasuresTo s t m o text [] → MeasuredTo told new layout t o
 measured_more told mid new layout s t m o n into text p more is q = record {
   came = p.came ++ q.came;
@@ -98,7 +98,7 @@ measured_more told mid new layout s t m o n into text p more is q = record {
 }
 
 -- a fault is one of the file
-pub measured_fault : (told mid new : Option Files) (layout : Layout) (s : Reading) (m : Measure) (n : ℕ) (into text : List ℕ) (why : FormFault)
+pub measured_fault : (told mid new : Option Files) (layout : Layout) (s : Reader) (m : Measure) (n : ℕ) (into text : List ℕ) (why : FormFault)
     → MeasuredTo told mid layout s m → ReadsMore mid new n into → text ≡ take n into → ((rest : List ℕ) → read_from s (text ++ rest) ≡ Err why)
     → IsNoFile told layout why
 measured_fault told mid new layout s m n into text why p more is fault = λ h bytes at left.
@@ -110,7 +110,7 @@ measured_fault told mid new layout s m n into text why p more is fault = λ h by
 -- ---- at its end
 
 -- nothing is left
-none_left : (told mid new : Option Files) (layout : Layout) (s : Reading) (m : Measure) (n : ℕ) (into : List ℕ) (p : MeasuredTo told mid layout s m)
+none_left : (told mid new : Option Files) (layout : Layout) (s : Reader) (m : Measure) (n : ℕ) (into : List ℕ) (p : MeasuredTo told mid layout s m)
     → ReadsMore mid new n into → n ≡ 0 → (h : Files) (bytes : List ℕ) → told ≡ Some h → h.left ≡ Some bytes → Reads (unread layout) bytes s [] p.came
 none_left told mid new layout s m n into p more is h bytes at left =
     let r = p.reads h bytes at left in
@@ -120,7 +120,7 @@ none_left told mid new layout s m n into p more is h bytes at left =
 some_of : (m : Measure) (format : Format) (records : List (List ℕ)) → m ≡ measured format records → 1 ≤ m.count → 1 ≤ length records
 some_of m format records is some = subst (λ (n : ℕ). 1 ≤ n) (ap (λ (x : Measure). x.count) is) some
 
-pub measured_all : (told mid new : Option Files) (layout : Layout) (s : Reading) (m o : Measure) (n : ℕ) (into : List ℕ) → MeasuredTo told mid layout s m
+pub measured_all : (told mid new : Option Files) (layout : Layout) (s : Reader) (m o : Measure) (n : ℕ) (into : List ℕ) → MeasuredTo told mid layout s m
     → ReadsMore mid new n into → n ≡ 0 → MeasuresLast s m o → IsMeasured told layout o
 measured_all told mid new layout s m o n into p more is q =
     let measure = subst (λ (z : Option ℕ). m ≡ measured (sized z) p.came → o ≡ measured (sized z) (p.came ++ q.last)) p.size (q.measure p.came) p.measure in
@@ -137,7 +137,7 @@ measured_all told mid new layout s m o n into p more is q =
           records_behind (unread layout) s bytes [] p.came q.last (none_left told mid new layout s m n into p more is h bytes at left) q.reads;
     }
 
-pub ended_fault : (told mid new : Option Files) (layout : Layout) (s : Reading) (m : Measure) (n : ℕ) (into : List ℕ) (why : FormFault)
+pub ended_fault : (told mid new : Option Files) (layout : Layout) (s : Reader) (m : Measure) (n : ℕ) (into : List ℕ) (why : FormFault)
     → MeasuredTo told mid layout s m → ReadsMore mid new n into → n ≡ 0 → read_from s [] ≡ Err why → IsNoFile told layout why
 ended_fault told mid new layout s m n into why p more is fault = λ h bytes at left.
     fault_behind (unread layout) s bytes [] p.came why (none_left told mid new layout s m n into p more is h bytes at left) fault

@@ -5,15 +5,15 @@ use Rattle.cms_journal.specs.Told.{Told}
 use Rattle.cms_fields.specs.declared.time.Stamp.{Stamp}
 use Rattle.cms_model.specs.Changes.{Change}
 use Rattle.cms_model.specs.Minidisks.{Minidisk}
-use Rattle.cms_edf.specs.FileDrafts.{FileDraft}
+use Rattle.cms_edf.specs.FileDrafts.{Draft}
 use Rattle.cms_disk.specs.Disks.{Accessed}
 use Rattle.cms_disk.specs.Drafts.{GoesOn, IsGivenUp}
-use Rattle.mini_forms.specs.Reading.{Reading, ended, fed, read_from, whole_in}
+use Rattle.mini_forms.specs.RecordReads.{Reader, ended, fed, read_from, whole_in}
 use Rattle.mini_forms.specs.declared.form.FormFault.{FormFault}
 use Rattle.mini_host.specs.Files.{Files}
-use Rattle.mini_work.specs.Reading.{IsReadOn, PutsAll, PutsSo, PutsText, PutsTo, with_left}
-use Rattle.mini_work.specs.declared.reading.FileFault.{FileFault}
-use Rattle.mini_work.specs.declared.reading.FileFault.TheVariants as fault
+use Rattle.mini_work.specs.HostRecords.{IsReadOn, PutsAll, PutsSo, PutsText, PutsTo, with_left}
+use Rattle.mini_work.specs.declared.host_records.FileFault.{FileFault}
+use Rattle.mini_work.specs.declared.host_records.FileFault.TheVariants as fault
 use Rattle.mini_work.proofs.Fed.{behind, end_fault, none_here, reads_end, reads_fault, reads_one, whole_here}
 use Rattle.mini_work.proofs.MeasuredFile.{left_same, split_at}
 
@@ -30,7 +30,7 @@ splits came more (Ok left) is = record { left = left; is = refl; split = let e :
 splits came more (Err why) is = absurd (cc is)
 
 -- no record is whole with this byte
-pub puts_still : (start now : Told) (d : Accessed) (m : Minidisk) (draft : FileDraft) (change : Change) (stamp : Stamp) (done more : List (List ℕ)) (s t : Reading) (b : ℕ) (rest : List ℕ)
+pub puts_still : (start now : Told) (d : Accessed) (m : Minidisk) (draft : Draft) (change : Change) (stamp : Stamp) (done more : List (List ℕ)) (s t : Reader) (b : ℕ) (rest : List ℕ)
     → GoesOn start now d m draft change stamp done more → read_from s (b ∷ rest) ≡ Ok more → fed s b ≡ Ok t → t.whole ≡ false
     → PutsTo start now d m draft change stamp done more t rest
 puts_still start now d m draft change stamp done more s t b rest goes is next fresh =
@@ -46,7 +46,7 @@ puts_still start now d m draft change stamp done more s t b rest goes is next fr
     }
 
 -- or one is, and it was put
-pub puts_one : (start old new : Told) (d : Accessed) (m : Minidisk) (draft draft' : FileDraft) (change : Change) (stamp : Stamp) (done more : List (List ℕ)) (s t : Reading) (b : ℕ)
+pub puts_one : (start old new : Told) (d : Accessed) (m : Minidisk) (draft draft' : Draft) (change : Change) (stamp : Stamp) (done more : List (List ℕ)) (s t : Reader) (b : ℕ)
     (text rest : List ℕ) (r : Result ⊤ FileFault) → GoesOn start old d m draft change stamp done more → read_from s (b ∷ rest) ≡ Ok more → fed s b ≡ Ok t
     → t.whole ≡ true → text ≡ t.bytes
     → ((left : List (List ℕ)) → GoesOn start old d m draft change stamp done (text ∷ left) → PutsText start new d m draft' change stamp (done ++ text ∷ []) left r)
@@ -65,7 +65,7 @@ puts_one start old new d m draft draft' change stamp done more s t b text rest r
     came (Err (fault.Fault why)) left one reads goes = goes
 
 -- it has no fault
-pub puts_never : (s : Reading) (b : ℕ) (rest : List ℕ) (more : List (List ℕ)) (why : FormFault) → read_from s (b ∷ rest) ≡ Ok more → fed s b ≡ Err why → ⊥
+pub puts_never : (s : Reader) (b : ℕ) (rest : List ℕ) (more : List (List ℕ)) (why : FormFault) → read_from s (b ∷ rest) ≡ Ok more → fed s b ≡ Err why → ⊥
 puts_never s b rest more why is next = clash (read_from s (b ∷ rest)) is (reads_fault s b rest why next)
   where
     clash : (r : Result (List (List ℕ)) FormFault) → r ≡ Ok more → r ≡ Err why → ⊥
@@ -74,7 +74,7 @@ puts_never s b rest more why is next = clash (read_from s (b ∷ rest)) is (read
 
 -- ---- bytes one after another
 
-pub puts_first : (start now : Told) (d : Accessed) (m : Minidisk) (draft : FileDraft) (change : Change) (stamp : Stamp) (done more : List (List ℕ)) (s : Reading) (bytes : List ℕ)
+pub puts_first : (start now : Told) (d : Accessed) (m : Minidisk) (draft : Draft) (change : Change) (stamp : Stamp) (done more : List (List ℕ)) (s : Reader) (bytes : List ℕ)
     → GoesOn start now d m draft change stamp done more → read_from s bytes ≡ Ok more → PutsTo start now d m draft change stamp done more s bytes
 puts_first start now d m draft change stamp done more s bytes goes is = record {
   came = [];
@@ -85,13 +85,13 @@ puts_first start now d m draft change stamp done more s bytes goes is = record {
 }
 
 -- bytes that only go on with the record that is begun
-pub puts_skip : (start now : Told) (d : Accessed) (m : Minidisk) (draft : FileDraft) (change : Change) (stamp : Stamp) (done more : List (List ℕ))
-    (s t : Reading) (bytes rest : List ℕ) → PutsTo start now d m draft change stamp done more s bytes → read_from s bytes ≡ read_from t rest
+pub puts_skip : (start now : Told) (d : Accessed) (m : Minidisk) (draft : Draft) (change : Change) (stamp : Stamp) (done more : List (List ℕ))
+    (s t : Reader) (bytes rest : List ℕ) → PutsTo start now d m draft change stamp done more s bytes → read_from s bytes ≡ read_from t rest
     → PutsTo start now d m draft change stamp done more t rest
 puts_skip start now d m draft change stamp done more s t bytes rest p same =
     record { came = p.came; left = p.left; split = p.split; goes = p.goes; reads = sym same ∙ p.reads }
 
-pub puts_more : (start old new : Told) (d : Accessed) (m : Minidisk) (first draft draft' : FileDraft) (change : Change) (stamp : Stamp) (done more : List (List ℕ)) (s t : Reading) (bytes rest : List ℕ)
+pub puts_more : (start old new : Told) (d : Accessed) (m : Minidisk) (first draft draft' : Draft) (change : Change) (stamp : Stamp) (done more : List (List ℕ)) (s t : Reader) (bytes rest : List ℕ)
     (b : ℕ) (r : Result ⊤ FileFault) → PutsTo start old d m draft change stamp done more s bytes → bytes ≡ b ∷ rest
     → ((front behind : List (List ℕ)) → GoesOn start old d m draft change stamp front behind → read_from s (b ∷ rest) ≡ Ok behind
     → PutsSo start new d m draft' change stamp front behind t rest r)
@@ -113,14 +113,14 @@ puts_more start old new d m first draft draft' change stamp done more s t bytes 
 
 -- ---- the last one
 
-pub last_none : (start now : Told) (d : Accessed) (m : Minidisk) (draft : FileDraft) (change : Change) (stamp : Stamp) (done more : List (List ℕ)) (s t : Reading)
+pub last_none : (start now : Told) (d : Accessed) (m : Minidisk) (draft : Draft) (change : Change) (stamp : Stamp) (done more : List (List ℕ)) (s t : Reader)
     → GoesOn start now d m draft change stamp done more → read_from s [] ≡ Ok more → ended s ≡ Ok t → t.whole ≡ false → GoesOn start now d m draft change stamp (done ++ more) []
 last_none start now d m draft change stamp done more s t goes is next fresh =
     let none : more ≡ [] = (let e : Ok more ≡ Ok (whole_in t) = sym is ∙ reads_end s t next in let f : more ≡ whole_in t = cc e in f) ∙ none_here t fresh in
     subst (λ (l : List (List ℕ)). GoesOn start now d m draft change stamp l []) (sym (ap (λ (l : List (List ℕ)). done ++ l) none ∙ append-nil done))
     (subst (λ (l : List (List ℕ)). GoesOn start now d m draft change stamp done l) none goes)
 
-pub last_one : (start old new : Told) (d : Accessed) (m : Minidisk) (draft draft' : FileDraft) (change : Change) (stamp : Stamp) (done more : List (List ℕ)) (s t : Reading) (text : List ℕ)
+pub last_one : (start old new : Told) (d : Accessed) (m : Minidisk) (draft draft' : Draft) (change : Change) (stamp : Stamp) (done more : List (List ℕ)) (s t : Reader) (text : List ℕ)
     (r : Result ⊤ FileFault) → GoesOn start old d m draft change stamp done more → read_from s [] ≡ Ok more → ended s ≡ Ok t → t.whole ≡ true → text ≡ t.bytes
     → (GoesOn start old d m draft change stamp done (text ∷ []) → PutsText start new d m draft' change stamp (done ++ text ∷ []) [] r)
     → PutsAll start new d m draft' change stamp (done ++ more) r
@@ -137,7 +137,7 @@ last_one start old new d m draft draft' change stamp done more s t text r goes i
     all (Err fault.Changed) whole some e p = p
     all (Err (fault.Fault why)) whole some e p = p
 
-pub last_never : (s : Reading) (more : List (List ℕ)) (why : FormFault) → read_from s [] ≡ Ok more → ended s ≡ Err why → ⊥
+pub last_never : (s : Reader) (more : List (List ℕ)) (why : FormFault) → read_from s [] ≡ Ok more → ended s ≡ Err why → ⊥
 last_never s more why is next = clash (read_from s []) is (end_fault s why next)
   where
     clash : (r : Result (List (List ℕ)) FormFault) → r ≡ Ok more → r ≡ Err why → ⊥
@@ -147,7 +147,7 @@ last_never s more why is next = clash (read_from s []) is (end_fault s why next)
 -- ---- the whole of a host file
 
 -- so far, where the host tells its files
-pub record PutsOn (start now : Told) (d : Accessed) (m : Minidisk) (draft : FileDraft) (change : Change) (stamp : Stamp) (records : List (List ℕ)) (s : Reading) (h : Files) (k : Option Files) :
+pub record PutsOn (start now : Told) (d : Accessed) (m : Minidisk) (draft : Draft) (change : Change) (stamp : Stamp) (records : List (List ℕ)) (s : Reader) (h : Files) (k : Option Files) :
     Type 0 where
   pub came : List (List ℕ)
   pub left : List (List ℕ)
@@ -157,7 +157,7 @@ pub record PutsOn (start now : Told) (d : Accessed) (m : Minidisk) (draft : File
   pub told : k ≡ Some (with_left rest h)
   pub reads : read_from s rest ≡ Ok left
 
-pub on_first : (start now : Told) (d : Accessed) (m : Minidisk) (draft : FileDraft) (change : Change) (stamp : Stamp) (records : List (List ℕ)) (s : Reading) (h : Files) (k : Option Files)
+pub on_first : (start now : Told) (d : Accessed) (m : Minidisk) (draft : Draft) (change : Change) (stamp : Stamp) (records : List (List ℕ)) (s : Reader) (h : Files) (k : Option Files)
     (bytes : List ℕ) → GoesOn start now d m draft change stamp [] records → k ≡ Some h → h.left ≡ Some bytes → read_from s bytes ≡ Ok records
     → PutsOn start now d m draft change stamp records s h k
 on_first start now d m draft change stamp records s h k bytes goes told left is = record {
@@ -171,7 +171,7 @@ on_first start now d m draft change stamp records s h k bytes goes told left is 
 }
 
 -- it may be given up
-pub on_given : (start now : Told) (d : Accessed) (m : Minidisk) (draft : FileDraft) (change : Change) (stamp : Stamp) (records : List (List ℕ)) (s : Reading) (h : Files) (k : Option Files)
+pub on_given : (start now : Told) (d : Accessed) (m : Minidisk) (draft : Draft) (change : Change) (stamp : Stamp) (records : List (List ℕ)) (s : Reader) (h : Files) (k : Option Files)
     → PutsOn start now d m draft change stamp records s h k → IsGivenUp start now d m change
 on_given start now d m draft change stamp records s h k p = record { stands = p.goes.stands; aside = p.goes.aside; few = p.goes.few }
 
@@ -180,14 +180,14 @@ abbrev pub ReadsSo : Option Files → Option Files → ℕ → List ℕ → Type
 ReadsSo k l n into = (h : Files) (left : List ℕ) → k ≡ Some h → h.left ≡ Some left → IsReadOn n left into h l
 
 -- what putting what was read comes to
-abbrev pub OnSo : Told → Told → Accessed → Minidisk → FileDraft → Change → Stamp → List (List ℕ) → Reading → Files → Option Files → Result ⊤ FileFault → Type 0
+abbrev pub OnSo : Told → Told → Accessed → Minidisk → Draft → Change → Stamp → List (List ℕ) → Reader → Files → Option Files → Result ⊤ FileFault → Type 0
 OnSo start now d m draft change stamp records s h k (Ok x) = PutsOn start now d m draft change stamp records s h k
 OnSo start now d m draft change stamp records s h k (Err (fault.Form why)) = ⊥
 OnSo start now d m draft change stamp records s h k (Err fault.Changed) = ⊥
 OnSo start now d m draft change stamp records s h k (Err (fault.Fault why)) = IsGivenUp start now d m change
 
 -- bytes that were read were put
-pub on_more : (start old new : Told) (d : Accessed) (m : Minidisk) (draft draft' : FileDraft) (change : Change) (stamp : Stamp) (records : List (List ℕ)) (s t : Reading) (h : Files)
+pub on_more : (start old new : Told) (d : Accessed) (m : Minidisk) (draft draft' : Draft) (change : Change) (stamp : Stamp) (records : List (List ℕ)) (s t : Reader) (h : Files)
     (k l : Option Files) (n : ℕ) (into text : List ℕ) (r : Result ⊤ FileFault) → PutsOn start old d m draft change stamp records s h k → ReadsSo k l n into
     → text ≡ take n into
     → ((done more : List (List ℕ)) (rest : List ℕ) → GoesOn start old d m draft change stamp done more → read_from s (text ++ rest) ≡ Ok more
@@ -214,7 +214,7 @@ on_more start old new d m draft draft' change stamp records s t h k l n into tex
     join (Err (fault.Fault why)) told q = q
 
 -- nothing is left of it
-pub on_last : (start old new : Told) (d : Accessed) (m : Minidisk) (draft draft' : FileDraft) (change : Change) (stamp : Stamp) (records : List (List ℕ)) (s : Reading) (h : Files)
+pub on_last : (start old new : Told) (d : Accessed) (m : Minidisk) (draft draft' : Draft) (change : Change) (stamp : Stamp) (records : List (List ℕ)) (s : Reader) (h : Files)
     (k l : Option Files) (n : ℕ) (into : List ℕ) (r : Result ⊤ FileFault) → PutsOn start old d m draft change stamp records s h k → ReadsSo k l n into → n ≡ 0
     → ((done more : List (List ℕ)) → GoesOn start old d m draft change stamp done more → read_from s [] ≡ Ok more → PutsAll start new d m draft' change stamp (done ++ more) r)
     → PutsAll start new d m draft' change stamp records r
@@ -223,18 +223,18 @@ on_last start old new d m draft draft' change stamp records s h k l n into r p m
     subst (λ (x : List (List ℕ)). PutsAll start new d m draft' change stamp x r) (sym p.split)
     (puts p.came p.left p.goes (subst (λ (x : List ℕ). read_from s x ≡ Ok p.left) (on.ended none) p.reads))
 
-pub on_stopped : (start now : Told) (d : Accessed) (m : Minidisk) (draft : FileDraft) (change : Change) (stamp : Stamp) (records : List (List ℕ)) (s : Reading) (h : Files) (k : Option Files)
+pub on_stopped : (start now : Told) (d : Accessed) (m : Minidisk) (draft : Draft) (change : Change) (stamp : Stamp) (records : List (List ℕ)) (s : Reader) (h : Files) (k : Option Files)
     (why : FileFault) → OnSo start now d m draft change stamp records s h k (Err why) → PutsAll start now d m draft change stamp records (Err why)
 on_stopped start now d m draft change stamp records s h k (fault.Form why) p = p
 on_stopped start now d m draft change stamp records s h k fault.Changed p = p
 on_stopped start now d m draft change stamp records s h k (fault.Fault why) p = p
 
 -- before the first byte
-pub none_given : (start now : Told) (d : Accessed) (m : Minidisk) (draft : FileDraft) (change : Change) (stamp : Stamp) (done more : List (List ℕ)) → GoesOn start now d m draft change stamp done more
+pub none_given : (start now : Told) (d : Accessed) (m : Minidisk) (draft : Draft) (change : Change) (stamp : Stamp) (done more : List (List ℕ)) → GoesOn start now d m draft change stamp done more
     → IsGivenUp start now d m change
 none_given start now d m draft change stamp done more goes = record { stands = goes.stands; aside = goes.aside; few = goes.few }
 
-pub puts_stopped : (start now : Told) (d : Accessed) (m : Minidisk) (draft : FileDraft) (change : Change) (stamp : Stamp) (done more : List (List ℕ)) (s t : Reading) (xs ys : List ℕ)
+pub puts_stopped : (start now : Told) (d : Accessed) (m : Minidisk) (draft : Draft) (change : Change) (stamp : Stamp) (done more : List (List ℕ)) (s t : Reader) (xs ys : List ℕ)
     (why : FileFault) → PutsSo start now d m draft change stamp done more s xs (Err why) → PutsSo start now d m draft change stamp done more t ys (Err why)
 puts_stopped start now d m draft change stamp done more s t xs ys (fault.Form why) p = p
 puts_stopped start now d m draft change stamp done more s t xs ys fault.Changed p = p

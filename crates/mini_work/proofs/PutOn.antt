@@ -10,40 +10,40 @@ use Rattle.cms_model.specs.Changes.{Change, Put, file_named}
 use Rattle.cms_model.specs.LawsUpdates.{now}
 use Rattle.cms_model.specs.Minidisks.{File, Minidisk}
 use Rattle.cms_model.specs.Records.{length_of}
-use Rattle.cms_draft.specs.BlockWriting.{CanWrite}
-use Rattle.cms_draft.specs.Drafting.{Drafts, HaveShape}
+use Rattle.cms_draft.specs.BlockWriters.{CanWrite}
+use Rattle.cms_draft.specs.FileWriters.{Drafts, HaveShape}
 use Rattle.cms_draft.specs.declared.shape.DraftShape.{DraftShape}
-use Rattle.cms_edf.specs.Asking.{info_of, infos_in}
-use Rattle.cms_edf.specs.FileDrafts.{FileDraft, IsSomeDraft}
+use Rattle.cms_edf.specs.FileDrafts.{Draft, IsSomeDraft}
+use Rattle.cms_edf.specs.FilesTold.{info_of, infos_in}
 use Rattle.cms_edf.specs.declared.held.FileInfo.{FileInfo}
 use Rattle.cms_edf.proofs.Committed.{can_write}
 use Rattle.cms_edf.proofs.Planned.{named_at as named_in}
 use Rattle.cms_held.specs.Drafts.{Front}
-use Rattle.cms_held.specs.Opening.{HeldFile}
-use Rattle.cms_disk.specs.Changing.{Alters, IsOnSame}
+use Rattle.cms_held.specs.HeldVolumes.{HeldFile}
+use Rattle.cms_disk.specs.Changes.{Alters, IsOnSame}
 use Rattle.cms_disk.specs.Disks.{Accessed, place_of}
 use Rattle.cms_disk.specs.Drafts.{AnswersDraft, BeginsPut, GoesOn, HaveCounts, IsDraftFault, file_with}
 use Rattle.cms_disk.specs.declared.fault.DiskFault.{DiskFault}
+use Rattle.cms_disk.proofs.DisksTold.{named_at}
 use Rattle.cms_disk.proofs.FilePut.{refused_so}
-use Rattle.cms_disk.proofs.Finding.{none_found}
-use Rattle.cms_disk.proofs.Standing.{named_at}
-use Rattle.mini_forms.specs.Reading.{records_in}
+use Rattle.cms_disk.proofs.FilesFound.{none_found}
+use Rattle.mini_forms.specs.RecordReads.{records_in}
 use Rattle.mini_forms.specs.declared.form.Layout.{Layout}
 use Rattle.mini_host.specs.Files.{content_of}
 use Rattle.mini_host.specs.declared.content.HostFile.{HostFile}
 use Rattle.mini_words.specs.declared.request.Put as words
-use Rattle.mini_work.specs.Changing.{IsChange}
-use Rattle.mini_work.specs.Drafting.{Begins, FillsSo, IsShapeOf}
-use Rattle.mini_work.specs.Going.{Act, Continues, MayChange}
+use Rattle.mini_work.specs.Changes.{IsChange}
+use Rattle.mini_work.specs.CommandActs.{Act, Continues, MayChange}
+use Rattle.mini_work.specs.Drafts.{Begins, FillsSo, IsShapeOf}
 use Rattle.mini_work.specs.Layouts.{size_of}
-use Rattle.mini_work.specs.Putting.{IsFileFor, IsNoFileFor, IsPut, name_for, number_for}
-use Rattle.mini_work.specs.Saying.{name_line}
-use Rattle.mini_work.specs.Standing.{Stands}
+use Rattle.mini_work.specs.Output.{name_line}
+use Rattle.mini_work.specs.Puts.{IsFileFor, IsNoFileFor, IsPut, name_for, number_for}
+use Rattle.mini_work.specs.Stands.{Stands}
 use Rattle.mini_work.specs.declared.fault.Fault.{Fault}
 use Rattle.mini_work.specs.declared.status.Status.{Status}
 use Rattle.mini_work.specs.declared.status.Status.TheVariants as status
-use Rattle.mini_work.proofs.Leading.{AltersEach, ended_on}
-use Rattle.mini_work.proofs.Standing.{came_still, cut_change, cut_drafting, stands_same}
+use Rattle.mini_work.proofs.PartsJoined.{AltersEach, ended_on}
+use Rattle.mini_work.proofs.UnitStands.{came_still, cut_change, cut_drafting, stands_same}
 
 -- ---- what is said of a part, said otherwise
 
@@ -91,7 +91,7 @@ number_none given told d m name none s = sym (ap (number_for given) (none_found 
 -- ---- the draft
 
 -- it begins wherever the minidisk stands, whatever its spare places
-pub begins_put : (told : Told) (d e : Accessed) (name : Name) (shape : DraftShape) (stamp : Stamp) (draft : FileDraft) (records : List (List ℕ))
+pub begins_put : (told : Told) (d e : Accessed) (name : Name) (shape : DraftShape) (stamp : Stamp) (draft : Draft) (records : List (List ℕ))
     → e.volume ≡ d.volume → BeginsPut d e name shape stamp draft → HaveShape shape records → length_of shape.format shape.length records ≡ shape.length
     → Begins told e draft (Put (file_with name shape records)) stamp records
 begins_put told d e name shape stamp draft records same begins have long = λ m s.
@@ -100,12 +100,12 @@ begins_put told d e name shape stamp draft records same begins have long = λ m 
     (begins t.at m records t.minidisk t.readable have long)
 
 -- what filling it says
-abbrev pub Fills : Told → Told → Accessed → FileDraft → FileDraft → Change → Stamp → List (List ℕ) → Result Bool Fault → Type 0
+abbrev pub Fills : Told → Told → Accessed → Draft → Draft → Change → Stamp → List (List ℕ) → Result Bool Fault → Type 0
 Fills old new d draft draft' change stamp records r =
     (m : Minidisk) → GoesOn old old d m draft change stamp [] records → FillsSo old new d m draft' change stamp records r
 
 -- it was given up
-pub fill_cut : {A : Type 0} (P : A → Minidisk → List Act → Minidisk → List Act → Type 0) (old new : Told) (d : Accessed) (draft draft' : FileDraft)
+pub fill_cut : {A : Type 0} (P : A → Minidisk → List Act → Minidisk → List Act → Type 0) (old new : Told) (d : Accessed) (draft draft' : Draft)
     (change : Change) (stamp : Stamp) (records : List (List ℕ)) (why f : Fault) → Begins old d draft change stamp records
     → Fills old new d draft draft' change stamp records (Err why) → Continues P old d new d (Err f)
 fill_cut P old new d draft draft' change stamp records why f begins fills = λ start first m acts came. (
@@ -114,19 +114,19 @@ fill_cut P old new d draft draft' change stamp records why f begins fills = λ s
 )
 
 -- it never lacks a record
-pub fill_never : (P : Status → Minidisk → List Act → Minidisk → List Act → Type 0) (old new : Told) (d : Accessed) (draft draft' : FileDraft)
+pub fill_never : (P : Status → Minidisk → List Act → Minidisk → List Act → Type 0) (old new : Told) (d : Accessed) (draft draft' : Draft)
     (change : Change) (stamp : Stamp) (records : List (List ℕ)) (r : Result Status Fault) → Begins old d draft change stamp records
     → Fills old new d draft draft' change stamp records (Ok false) → Continues P old d new d r
 fill_never P old new d draft draft' change stamp records (Ok x) begins fills = λ start first m acts came. absurd (fills m (begins m came.stands))
 fill_never P old new d draft draft' change stamp records (Err f) begins fills = λ start first m acts came. absurd (fills m (begins m came.stands))
 
 -- what making it a file says
-abbrev pub Commits : Told → Told → Told → Accessed → Accessed → FileDraft → Result ⊤ DiskFault → Type 0
+abbrev pub Commits : Told → Told → Told → Accessed → Accessed → Draft → Result ⊤ DiskFault → Type 0
 Commits start mid new d e draft r =
     (m : Minidisk) (change : Change) (stamp : Stamp) (records : List (List ℕ)) → GoesOn start mid d m draft change stamp records []
     → Alters start new d e m change stamp r
 
-pub commits_each : (old mid new : Told) (d e : Accessed) (draft draft' : FileDraft) (change : Change) (stamp : Stamp) (records : List (List ℕ))
+pub commits_each : (old mid new : Told) (d e : Accessed) (draft draft' : Draft) (change : Change) (stamp : Stamp) (records : List (List ℕ))
     (r : Result ⊤ DiskFault) → MayChange old d → Begins old d draft change stamp records → Fills old mid d draft draft' change stamp records (Ok true)
     → Commits old mid new d e draft' r → AltersEach old new d e change stamp r
 commits_each old mid new d e draft draft' change stamp records r may begins fills commits = λ j m is at looked.
@@ -146,7 +146,7 @@ pub draft_refused : (T : Type 0) (told : Told) (d e : Accessed) (name : Name) (s
 draft_refused T told d e name shape stamp records why may counts fault answers = λ j m is at looked.
     refused_so T told d e m name shape records stamp why fault (answers j m records at (may.0 j is) counts)
 
-pub draft_ready : (told : Told) (d : Accessed) (draft : FileDraft) → IsSomeDraft d.volume draft → MayChange told d → d.writable ≡ true
+pub draft_ready : (told : Told) (d : Accessed) (draft : Draft) → IsSomeDraft d.volume draft → MayChange told d → d.writable ≡ true
     → ForSome told (λ j. CanWrite j.units draft.writer.writer)
 draft_ready told d draft some may writable = λ j is. can_write j.units d.volume draft some (may.0 j is) (may.1 writable j is)
 
@@ -184,14 +184,14 @@ put_as files put stamp file old new d e f r p is =
 -- ---- the draft is filled
 
 -- it has all of them
-pub fills_all : (start now : Told) (d : Accessed) (m : Minidisk) (draft : FileDraft) (change : Change) (stamp : Stamp) (records : List (List ℕ))
+pub fills_all : (start now : Told) (d : Accessed) (m : Minidisk) (draft : Draft) (change : Change) (stamp : Stamp) (records : List (List ℕ))
     (b : Bool) → ((front : Front) (rs : List (List ℕ)) → Drafts draft.writer front rs [] → b ≡ true)
     → GoesOn start now d m draft change stamp records [] → FillsSo start now d m draft change stamp records (Ok b)
 fills_all start now d m draft change stamp records true all goes = goes
 fills_all start now d m draft change stamp records false all goes = absurd (let e : false ≡ true = all goes.front records goes.drafts in cc e)
 
 -- before the first byte
-pub fills_none : (start now : Told) (d : Accessed) (m : Minidisk) (draft draft' : FileDraft) (change : Change) (stamp : Stamp) (records : List (List ℕ))
+pub fills_none : (start now : Told) (d : Accessed) (m : Minidisk) (draft draft' : Draft) (change : Change) (stamp : Stamp) (records : List (List ℕ))
     (r : Result Bool Fault) (why : Fault) → r ≡ Err why → GoesOn start now d m draft change stamp [] records
     → FillsSo start now d m draft' change stamp records r
 fills_none start now d m draft draft' change stamp records r why is goes =

@@ -4,8 +4,8 @@ use Rattle.cms_journal.specs.Told.{Grown, Told, plus}
 use Rattle.cms_journal.proofs.Events.{all_join}
 use Rattle.cms_journal.proofs.Pieces.{plus_plus}
 use Rattle.cms_machine.specs.Beats.{IsTyped}
-use Rattle.cms_line.specs.Typing.{TypedPart, TypedTo}
-use Rattle.mini_work.specs.Saying.{OnlyTypes}
+use Rattle.cms_line.specs.Typed.{TypedPart, TypedTo}
+use Rattle.mini_work.specs.Output.{OnlyTypes}
 
 pub types_none : (told : Told) → OnlyTypes told told
 types_none told = record { events = []; told = refl; only = tt }

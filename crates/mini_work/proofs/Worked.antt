@@ -9,25 +9,25 @@ use Rattle.cms_model.specs.Changes.{Rename}
 use Rattle.cms_model.specs.LawsUpdates.{now}
 use Rattle.cms_model.specs.Minidisks.{File, Minidisk}
 use Rattle.cms_machine.specs.Acts.{typed_line}
-use Rattle.cms_held.specs.Opening.{HeldFile, names_in}
+use Rattle.cms_held.specs.HeldVolumes.{HeldFile, names_in}
 use Rattle.cms_edf.proofs.Planned.{named_at as named_in}
-use Rattle.cms_edf.specs.Asking.{info_of, infos_in}
+use Rattle.cms_edf.specs.FilesTold.{info_of, infos_in}
 use Rattle.cms_edf.specs.declared.held.FileInfo.{FileInfo}
 use Rattle.cms_disk.specs.Disks.{Accessed, place_of}
-use Rattle.cms_disk.proofs.Finding.{none_found, stands_tells}
-use Rattle.cms_disk.proofs.Standing.{named_at}
+use Rattle.cms_disk.proofs.DisksTold.{named_at}
+use Rattle.cms_disk.proofs.FilesFound.{none_found, stands_tells}
 use Rattle.cms_listfile.proofs.Infos.{infos_told}
 use Rattle.mini_words.specs.declared.names.NamePattern.{NamePattern}
 use Rattle.cms_disk.specs.declared.fault.DiskFault.TheVariants as disk_fault
-use Rattle.mini_work.specs.Changing.{IsAsked, IsChange, IsTimed, IsTold, is_denial, stamp_at}
-use Rattle.mini_work.specs.Choosing.{chosen, idle_status}
-use Rattle.mini_work.specs.Going.{Act, Came, Continues, Goes, Went, both}
+use Rattle.mini_work.specs.Changes.{IsAsked, IsChange, IsTimed, IsTold, is_denial, stamp_at}
+use Rattle.mini_work.specs.ChosenFiles.{chosen, idle_status}
+use Rattle.mini_work.specs.CommandActs.{Act, Came, Continues, Goes, Went, both}
+use Rattle.mini_work.specs.Commands.{IsErasing, IsErasingAll, IsListing, IsRenamed, IsRenaming, IsWorked, names_of, opened, shut}
 use Rattle.mini_work.specs.Listing.{file_line, is_listed}
-use Rattle.mini_work.specs.Opening.{IsUnwritten, Opens}
-use Rattle.mini_work.specs.Saying.{name_line}
-use Rattle.mini_work.specs.Standing.{Stands}
-use Rattle.mini_work.specs.Working.{IsErasing, IsErasingAll, IsListing, IsRenamed, IsRenaming, IsWorked, names_of, opened, shut}
-use Rattle.mini_work.proofs.Leading.{ended_on, then_on}
+use Rattle.mini_work.specs.OpenedImages.{IsUnwritten, Opens}
+use Rattle.mini_work.specs.Output.{name_line}
+use Rattle.mini_work.specs.Stands.{Stands}
+use Rattle.mini_work.proofs.PartsJoined.{ended_on, then_on}
 use Rattle.mini_work.specs.declared.fault.Fault.{Fault}
 use Rattle.mini_work.specs.declared.status.Status.{Status}
 use Rattle.mini_work.specs.declared.status.Status.TheVariants as status

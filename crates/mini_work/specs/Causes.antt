@@ -8,8 +8,8 @@ use Rattle.cms_disk.specs.declared.fault.DiskFault.TheVariants as disk
 use Rattle.mini_host.specs.declared.host.Host.{Ghosts as HostGhosts}
 use Rattle.mini_work.specs.declared.fault.Fault.{Fault}
 use Rattle.mini_work.specs.declared.fault.Fault.TheVariants as fault
-use Rattle.mini_work.specs.declared.reading.FileFault.{FileFault}
-use Rattle.mini_work.specs.declared.reading.FileFault.TheVariants as file
+use Rattle.mini_work.specs.declared.host_records.FileFault.{FileFault}
+use Rattle.mini_work.specs.declared.host_records.FileFault.TheVariants as file
 use Rattle.mini_work.specs.declared.status.Status.{Status}
 use Rattle.mini_work.specs.declared.status.Status.TheVariants as status
 

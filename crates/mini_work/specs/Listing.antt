@@ -6,14 +6,14 @@ use Rattle.cms_names.specs.declared.name.Format.TheVariants.{F, V}
 use Rattle.cms_text.specs.Numbers.{decimal_of}
 use Rattle.cms_text.specs.Texts.{coded, without_trailing_blanks}
 use Rattle.cms_machine.specs.Acts.{typed_line}
-use Rattle.cms_held.specs.Opening.{HeldVolume}
-use Rattle.cms_edf.specs.Asking.{space_of}
+use Rattle.cms_held.specs.HeldVolumes.{HeldVolume}
+use Rattle.cms_edf.specs.FilesTold.{space_of}
 use Rattle.cms_edf.specs.declared.held.FileInfo.{FileInfo}
 use Rattle.cms_edf.specs.declared.held.Space.{Space}
 use Rattle.cms_search.specs.Texts.{left_in, right_in, spaced}
 use Rattle.mini_words.specs.declared.names.NamePattern.{NamePattern}
-use Rattle.mini_work.specs.Choosing.{fits_any}
-use Rattle.mini_work.specs.Saying.{name_text}
+use Rattle.mini_work.specs.ChosenFiles.{fits_any}
+use Rattle.mini_work.specs.Output.{name_text}
 
 -- F or V
 abbrev pub format_text : Format → List ℕ

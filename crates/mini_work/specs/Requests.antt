@@ -6,14 +6,14 @@ use Rattle.mini_host.specs.Files.{Files}
 use Rattle.mini_host.specs.declared.content.HostFile.{HostFile}
 use Rattle.mini_words.specs.declared.request.Request.{Request}
 use Rattle.mini_words.specs.declared.request.Request.TheVariants as ask
-use Rattle.mini_work.specs.Checking.{IsShowing, sound_text}
+use Rattle.mini_work.specs.Checks.{IsShowing, sound_text}
 use Rattle.mini_work.specs.Listing.{facts_text}
-use Rattle.mini_work.specs.Making.{IsMaking}
-use Rattle.mini_work.specs.Opening.{IsNew, IsUnwritten}
-use Rattle.mini_work.specs.Getting.{IsGetting, OnHost}
-use Rattle.mini_work.specs.Hosting.{files_in}
-use Rattle.mini_work.specs.Putting.{IsPutting}
-use Rattle.mini_work.specs.Working.{IsErasing, IsListing, IsRenaming, IsWorked}
+use Rattle.mini_work.specs.NewImages.{IsMaking}
+use Rattle.mini_work.specs.OpenedImages.{IsNew, IsUnwritten}
+use Rattle.mini_work.specs.Gets.{IsGetting, OnHost}
+use Rattle.mini_work.specs.HostTold.{files_in}
+use Rattle.mini_work.specs.Puts.{IsPutting}
+use Rattle.mini_work.specs.Commands.{IsErasing, IsListing, IsRenaming, IsWorked}
 use Rattle.mini_work.specs.declared.fault.Fault.{Fault}
 use Rattle.mini_work.specs.declared.status.Status.{Status}
 use Rattle.mini_work.specs.declared.status.Status.TheVariants as status

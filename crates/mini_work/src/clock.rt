@@ -5,8 +5,8 @@ ghost use Rattle.cms_fields.specs.Stamps.{is_stamp};
 ghost use Rattle.cms_journal.specs.Told.{Grown};
 ghost use Rattle.cms_disk.specs.Disks.{Accessed};
 ghost use Rattle.mini_work.specs.Causes.{HasCause, on_world};
-ghost use Rattle.mini_work.specs.Changing.{Asks, IsAsked};
-ghost use Rattle.mini_work.specs.Going.{Continues};
+ghost use Rattle.mini_work.specs.Changes.{Asks, IsAsked};
+ghost use Rattle.mini_work.specs.CommandActs.{Continues};
 
 use crate::fault::Fault;
 use cms_fields::{Moment, Stamp};

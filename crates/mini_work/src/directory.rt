@@ -1,12 +1,12 @@
 // The entries of a directory as they stand in its blocks.
 ghost use Rattle.std.specs.Prelude.{◌≡◌, ◌≤◌, ℕ, length, vec_len, IfOk, IfSome};
 ghost use Rattle.mini_work.specs.Causes.{HasCause, HasEnd, on_world};
-ghost use Rattle.mini_work.specs.Opening.{MayUse};
-ghost use Rattle.mini_work.specs.Saying.{OnlyTypes};
+ghost use Rattle.mini_work.specs.OpenedImages.{MayUse};
+ghost use Rattle.mini_work.specs.Output.{OnlyTypes};
 
 use crate::entries::entry_text;
 use crate::fault::Fault;
-use crate::saying::type_bytes;
+use crate::output::type_bytes;
 use crate::status::Status;
 use cms_disk::UnitInfo;
 use cms_text::bytes::word_at;

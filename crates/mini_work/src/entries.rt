@@ -1,7 +1,7 @@
 // The entries of a directory, and bytes, as they are shown.
 ghost use Rattle.std.specs.Prelude.{◌≤◌, length};
 
-use crate::saying::name_word;
+use crate::output::name_word;
 use cms_ebcdic::to_host;
 use cms_fields::{Entry, EntryFault, read_entry};
 use cms_journal::BlockSize;

@@ -3,25 +3,25 @@
 //! [`work`] does what one request asks for, on a world that has no unit yet and a host with its files.
 #![tactic(auto)]
 
-mod changing;
-mod checking;
-mod choosing;
+mod block_size;
+mod change;
+mod check;
+mod chosen_files;
 mod clock;
+mod command;
 mod directory;
-mod dumping;
+mod dump;
 mod entries;
 mod fault;
-mod getting;
-mod handing;
+mod get;
+mod handed_file;
+mod host_records;
 mod listing;
-mod looking;
-mod making;
-mod opening;
-mod putting;
-mod reading;
-mod saying;
+mod new_image;
+mod opened_image;
+mod output;
+mod put;
 mod status;
-mod working;
 
+pub use command::work;
 pub use status::Status;
-pub use working::work;

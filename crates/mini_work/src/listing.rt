@@ -1,24 +1,24 @@
 // Files of an image are listed, and what the image is.
 ghost use Rattle.std.specs.Prelude.{◌≡◌, ◌+◌, ◌/◌, ◌%◌, ◌++◌, ℕ, map, IfOk};
 ghost use Rattle.cms_journal.specs.declared.event.Access.TheVariants.{ReadOnly};
-ghost use Rattle.cms_edf.specs.Asking.{infos_in};
+ghost use Rattle.cms_edf.specs.FilesTold.{infos_in};
 ghost use Rattle.cms_machine.specs.Acts.{typed_line};
 ghost use Rattle.cms_search.specs.Texts.{spaced};
 ghost use Rattle.cms_text.specs.Numbers.{decimal_of};
 ghost use Rattle.mini_work.specs.Causes.{HasEnd, counts, on_world};
-ghost use Rattle.mini_work.specs.Changing.{IsTold};
-ghost use Rattle.mini_work.specs.Checking.{IsShowing, Shows};
-ghost use Rattle.mini_work.specs.Going.{Continues, Goes};
+ghost use Rattle.mini_work.specs.Changes.{IsTold};
+ghost use Rattle.mini_work.specs.Checks.{IsShowing, Shows};
+ghost use Rattle.mini_work.specs.CommandActs.{Continues, Goes};
+ghost use Rattle.mini_work.specs.Commands.{IsListing, IsWorked};
 ghost use Rattle.mini_work.specs.Listing as spec;
 ghost use Rattle.mini_work.specs.Listing.{facts_text};
-ghost use Rattle.mini_work.specs.Opening.{HasRoom, IsNew};
-ghost use Rattle.mini_work.specs.Saying.{OnlyTypes};
-ghost use Rattle.mini_work.specs.Working.{IsListing, IsWorked};
+ghost use Rattle.mini_work.specs.OpenedImages.{HasRoom, IsNew};
+ghost use Rattle.mini_work.specs.Output.{OnlyTypes};
 
-use crate::choosing::{fits_any, names_of, refuse_idle};
+use crate::chosen_files::{fits_any, names_of, refuse_idle};
 use crate::fault::Fault;
-use crate::opening::{open_disk, open_held};
-use crate::saying::{name_text, say_if, say_line};
+use crate::opened_image::{open_disk, open_held};
+use crate::output::{name_text, say_if, say_line};
 use crate::status::Status;
 use cms_disk::{FileInfo, Minidisk};
 use cms_edf::Held;

@@ -1,6 +1,6 @@
 // What a command comes to.
 ghost use Rattle.std.specs.Prelude.{◌≡◌};
-ghost use Rattle.mini_work.specs.Going.{both};
+ghost use Rattle.mini_work.specs.CommandActs.{both};
 
 /// What a command came to that wasn't for want of memory.
 #[derive(Clone, Copy, Debug, PartialEq, Eq)]
@@ -15,7 +15,7 @@ pub enum Status {
 
 impl Status {
     /// What two things came to, one after another: the worse of both.
-    #[tactic(auto, unfolding(crate::specs::Going::both))]
+    #[tactic(auto, unfolding(crate::specs::CommandActs::both))]
     pub fn and(self, other: Status) -> Status
         ensures { result ≡ both self other }
     {

@@ -4,12 +4,12 @@
 ghost use Rattle.std.specs.Prelude.{All};
 ghost use Rattle.mini_words.specs.Ranges.{IsWithin};
 
-mod ending;
+mod exit;
 
 use cms_host::{FileWorld, Host, Trouble};
 use cms_text::Series;
 use cms_world::Argv;
-use ending::Ending;
+use exit::Exit;
 use mini_files::HostFiles;
 use mini_words::{Refused, Request, WordFault, read_requests};
 use mini_work::{Status, work};
@@ -39,70 +39,70 @@ fn hold_streams(rt: &HostRuntime) -> io::Result<[File; 3]> {
 }
 
 /// Says why an image failed. One that is in use is refused.
-fn tell_image(rt: &HostRuntime, image: &str, trouble: Option<&Trouble>) -> Ending {
+fn tell_image(rt: &HostRuntime, image: &str, trouble: Option<&Trouble>) -> Exit {
     match trouble {
         Some(Trouble::InUse) => {
             let _ = eprintln!(rt;
                 "minidisk: {image}: it is in use; try again when the other program has ended"
             );
-            Ending::Refused
+            Exit::Refused
         }
         Some(Trouble::Image(error)) => {
             let _ = eprintln!(rt; "minidisk: {image}: {error}; what stands behind isn't done");
-            Ending::Failed
+            Exit::Failed
         }
         _ => {
             let _ = eprintln!(rt;
                 "minidisk: {image}: a block can't be read or written; what stands behind isn't done"
             );
-            Ending::Failed
+            Exit::Failed
         }
     }
 }
 
 /// What a command came to, where its output could be written or not.
-fn ending_of(rt: &HostRuntime, status: Status, written: bool) -> Ending {
+fn ending_of(rt: &HostRuntime, status: Status, written: bool) -> Exit {
     match status {
-        Status::Failed => Ending::Failed,
+        Status::Failed => Exit::Failed,
         Status::Done | Status::Refused if !written => {
             let _ = eprintln!(rt; "minidisk: standard output can't be written");
-            Ending::Failed
+            Exit::Failed
         }
-        Status::Refused => Ending::Refused,
-        Status::Done => Ending::Done,
+        Status::Refused => Exit::Refused,
+        Status::Done => Exit::Done,
     }
 }
 
 /// One request, in a world of its own.
-fn answer(rt: &HostRuntime, request: &Request) -> Ending
+fn answer(rt: &HostRuntime, request: &Request) -> Exit
     requires { IsWithin request.now }
 {
     let lines = rt.stdout().is_terminal();
     let host = Host::new(rt.alloc(), rt);
     let Ok(mut world) = FileWorld::new(rt.alloc(), host, lines) else {
-        return Ending::Memory;
+        return Exit::Memory;
     };
     let mut files = HostFiles::new(rt.alloc(), rt);
     let came = work(rt.alloc(), &mut world, &mut files, request);
     let settled = files.finish();
     let written = world.finish();
     let ending = match (came, files.failed_image()) {
-        (Err(_), _) => Ending::Memory,
+        (Err(_), _) => Exit::Memory,
         (Ok(Status::Failed), Some(image)) => tell_image(rt, image, world.trouble()),
         (Ok(status), _) => ending_of(rt, status, written),
     };
-    if settled { ending } else { Ending::Failed }
+    if settled { ending } else { Exit::Failed }
 }
 
 /// All requests, one behind another: the gravest ending of theirs.
-fn answer_all(rt: &HostRuntime, requests: &Series<Request>) -> Ending
+fn answer_all(rt: &HostRuntime, requests: &Series<Request>) -> Exit
     requires { All IsWithin requests.now }
 {
     let Ok(_streams) = hold_streams(rt) else {
         let _ = eprintln!(rt; "minidisk: {FOLDER} can't be opened");
-        return Ending::Failed;
+        return Exit::Failed;
     };
-    let mut ending = Ending::Done;
+    let mut ending = Exit::Done;
     for request in requests.as_slice() {
         ending = ending.and(answer(rt, request));
     }
@@ -110,16 +110,16 @@ fn answer_all(rt: &HostRuntime, requests: &Series<Request>) -> Ending
 }
 
 /// Says why words are refused.
-fn tell_refusal(rt: &HostRuntime, refused: Refused) -> Ending {
+fn tell_refusal(rt: &HostRuntime, refused: Refused) -> Exit {
     match refused {
         Refused::Clap(error) => {
             let printed = error.print(rt);
-            Ending::of_clap(&error, printed.is_ok())
+            Exit::of_clap(&error, printed.is_ok())
         }
-        Refused::Word(WordFault::Memory) => Ending::Memory,
+        Refused::Word(WordFault::Memory) => Exit::Memory,
         Refused::Word(fault) => {
             let _ = eprintln!(rt; "minidisk: {fault}");
-            Ending::Usage
+            Exit::Usage
         }
     }
 }
@@ -130,13 +130,13 @@ fn main(rt: HostRuntime) -> ExitCode {
             Ok(requests) => answer_all(&rt, &requests),
             Err(refused) => tell_refusal(&rt, refused),
         },
-        Err(error) if error.kind() == ErrorKind::OutOfMemory => Ending::Memory,
+        Err(error) if error.kind() == ErrorKind::OutOfMemory => Exit::Memory,
         Err(_) => {
             let _ = eprintln!(rt; "minidisk: a word isn't text in UTF-8");
-            Ending::Usage
+            Exit::Usage
         }
     };
-    if let Ending::Memory = ending {
+    if let Exit::Memory = ending {
         let _ = eprintln!(rt; "minidisk: there is no memory");
     }
     ExitCode::from(ending.code())

@@ -1,5 +1,5 @@
 // The cases of lines, and the test that tries them.
-use crate::line::{consoles, messages, options, stacks, typing};
+use crate::line::{consoles, messages, options, stacks, typed_lines};
 use cms_cases::{Subject, try_rows};
 use std::alloc::{AllocError, Global};
 use std::test::Fail;
@@ -26,8 +26,8 @@ const ROWS: &[(Cases, &str)] = &[
     (Cases::Lines(7), consoles::LINES),
     (Cases::Lines(4096), consoles::LINES),
     (Cases::Reads, consoles::READS),
-    (Cases::Typed, typing::TYPED),
-    (Cases::Codes, typing::CODES),
+    (Cases::Typed, typed_lines::TYPED),
+    (Cases::Codes, typed_lines::CODES),
     (Cases::Messages, messages::ROWS),
     (Cases::Stacks, stacks::ROWS),
     (Cases::Words, options::WORDS),
@@ -44,8 +44,8 @@ fn push_answer(
     match cases {
         Cases::Lines(size) => consoles::push_lines(into, alloc, size, case),
         Cases::Reads => consoles::push_reads(into, alloc, case),
-        Cases::Typed => typing::push_typed(into, alloc, case),
-        Cases::Codes => typing::push_codes(into, alloc),
+        Cases::Typed => typed_lines::push_typed(into, alloc, case),
+        Cases::Codes => typed_lines::push_codes(into, alloc),
         Cases::Messages => messages::push_text(into, alloc, case),
         Cases::Stacks => stacks::push_steps(into, alloc, case),
         Cases::Words => options::push_words(into, alloc, case),

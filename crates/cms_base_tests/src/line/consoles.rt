@@ -1,6 +1,6 @@
 // Scripts and their lines.
 use crate::line::pieces::{Pieces, in_pieces};
-use crate::line::telling::blank_word;
+use crate::line::words::blank_word;
 use cms_cases::{number, push_ascii};
 use cms_line::{Console, ConsoleLine, LineFault};
 use std::alloc::{AllocError, Global};

@@ -1,5 +1,5 @@
 // Messages.
-use crate::line::telling::{blank_word, short};
+use crate::line::words::{blank_word, short};
 use cms_cases::{number, push_ascii};
 use cms_line::{Message, Word, write_message};
 use std::alloc::{AllocError, Global};

@@ -1,5 +1,5 @@
 // Lines, their words and the options among them, written by hand.
-use crate::line::telling::short;
+use crate::line::words::short;
 use cms_cases::push_ascii;
 use cms_line::{OptionRule, Token, Tokens, accepted_options, options, tokens};
 use cms_text::coded;

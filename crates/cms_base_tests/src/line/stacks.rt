@@ -1,5 +1,5 @@
 // The program stack.
-use crate::line::telling::blank_word;
+use crate::line::words::blank_word;
 use cms_cases::number;
 use cms_line::{Line, ProgStack, PushFault};
 use std::alloc::{AllocError, Global};

@@ -1,5 +1,5 @@
 // The cases of volumes, and the test that tries them.
-use crate::edf::{drafting, making, opening, writing};
+use crate::edf::{drafts, empty_volumes, openings, written_files};
 use cms_cases::{Subject, try_rows};
 use std::alloc::{AllocError, Global};
 use std::test::Fail;
@@ -15,20 +15,20 @@ enum Cases {
 
 // The rows of each.
 const ROWS: &[(Cases, &str)] = &[
-    (Cases::Opening, opening::ROWS),
-    (Cases::Drafting, drafting::ROWS),
-    (Cases::Making, making::SHAPES),
-    (Cases::Making, making::ROWS),
-    (Cases::Writing, writing::ROWS),
+    (Cases::Opening, openings::ROWS),
+    (Cases::Drafting, drafts::ROWS),
+    (Cases::Making, empty_volumes::SHAPES),
+    (Cases::Making, empty_volumes::ROWS),
+    (Cases::Writing, written_files::ROWS),
 ];
 
 impl Subject for Cases {
     fn answer(&self, alloc: Global, case: &str) -> Result<String, AllocError> {
         match self {
-            Cases::Opening => opening::answer(alloc, case),
-            Cases::Drafting => drafting::answer(alloc, case),
-            Cases::Making => making::answer(alloc, case),
-            Cases::Writing => writing::answer(alloc, case),
+            Cases::Opening => openings::answer(alloc, case),
+            Cases::Drafting => drafts::answer(alloc, case),
+            Cases::Making => empty_volumes::answer(alloc, case),
+            Cases::Writing => written_files::answer(alloc, case),
         }
     }
 }

@@ -1,6 +1,6 @@
 use Rattle.std.proofs.Common.{ℕ, ◌+◌, ◌∙◌, take, sym, ap, arith}
 use Rattle.std.specs.Prelude.{count_by, not, ◌==◌, ◌&&◌}
-use Rattle.cms_edf.specs.Asking.{infos_in}
+use Rattle.cms_edf.specs.FilesTold.{infos_in}
 use Rattle.cms_edf.specs.declared.held.FileInfo.{FileInfo}
 use Rattle.cms_access.proofs.Queries.{count_more}
 use Rattle.cms_access.proofs.shown.count_seen.Goals as goal

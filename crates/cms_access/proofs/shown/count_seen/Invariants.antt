@@ -1,6 +1,6 @@
 use Rattle.std.proofs.Common.{◌≡◌, ◌≤◌, take}
 use Rattle.std.specs.Prelude.{◌==◌, ◌&&◌, count_by, not}
-use Rattle.cms_edf.specs.Asking.{infos_in}
+use Rattle.cms_edf.specs.FilesTold.{infos_in}
 use Rattle.cms_access.proofs.shown.count_seen.Given as goal
 
 abbrev pub invariant-loop-nth : goal.invariant-loop-nth

@@ -1,5 +1,5 @@
 use Rattle.std.proofs.Common.{◌∷◌, [], arith}
-use Rattle.cms_tree.proofs.Pathing.{path_takes_no_more}
+use Rattle.cms_tree.proofs.Paths.{path_takes_no_more}
 use Rattle.cms_base_tests.proofs.trees.path_told.Goals as goal
 
 pub path-requires-clause-fresh : goal.path-requires-clause-fresh

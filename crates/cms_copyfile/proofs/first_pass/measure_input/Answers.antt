@@ -3,7 +3,7 @@ use Rattle.std.proofs.lemmas.List.Elements.{All-take}
 use Rattle.cms_fields.specs.Limits.{longest_record}
 use Rattle.cms_names.specs.declared.name.Format.TheVariants.{V}
 use Rattle.cms_model.specs.Records.{Fits}
-use Rattle.cms_disk.proofs.Finding.{ok_maps}
+use Rattle.cms_disk.proofs.FilesFound.{ok_maps}
 use Rattle.cms_copyfile.specs.Outputs.{IsPlan}
 use Rattle.cms_copyfile.proofs.ToldLengths.{each_told, on_ok_maps}
 use Rattle.cms_copyfile.proofs.first_pass.measure_input.Goals as goal

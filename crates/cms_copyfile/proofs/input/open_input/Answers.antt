@@ -1,7 +1,7 @@
 use Rattle.std.proofs.Common.{◌∙◌, ap, subst, sym}
 use Rattle.cms_names.specs.declared.name.Name.{Name}
 use Rattle.cms_search.specs.declared.search.Found.{Found}
-use Rattle.cms_disk.proofs.Finding.{ok_maps}
+use Rattle.cms_disk.proofs.FilesFound.{ok_maps}
 use Rattle.cms_files.specs.OpenFiles.{IsOpened}
 use Rattle.cms_files.specs.Told.{IsFoundAt, info_found}
 use Rattle.cms_files.specs.declared.open_files.OpenFile.{OpenFile}

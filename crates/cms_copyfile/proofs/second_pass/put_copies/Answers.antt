@@ -5,10 +5,10 @@ use Rattle.cms_journal.specs.declared.event.Attached.{Attached}
 use Rattle.cms_journal.specs.Journal.{HasBlocks}
 use Rattle.cms_journal.specs.Told.{Grown, Told}
 use Rattle.cms_journal.proofs.Pieces.{grown_then}
-use Rattle.cms_draft.specs.BlockWriting.{CanWrite}
-use Rattle.cms_disk.proofs.Filling.{changes_then, same_none, same_then}
+use Rattle.cms_draft.specs.BlockWriters.{CanWrite}
+use Rattle.cms_disk.proofs.RecordsPut.{changes_then, same_none, same_then}
 use Rattle.cms_world.specs.Seen.{seen}
-use Rattle.cms_disk.specs.Cursors.{HandsOut, HasLeft, Reading}
+use Rattle.cms_disk.specs.Cursors.{HandsOut, HasLeft, Cursor}
 use Rattle.cms_disk.specs.declared.fault.DiskFault.TheVariants as failed
 use Rattle.cms_edf.specs.OpeningSteps.{OfImage}
 use Rattle.cms_search.proofs.HandedRecords.{open_same, same_then as file_then}
@@ -159,7 +159,7 @@ returns-in-Ok-false-clause-puts g c = λ start d m change stamp records from.
 pub returns-in-Ok-false-clause-unit : goal.returns-in-Ok-false-clause-unit
 returns-in-Ok-false-clause-unit g c = λ start d m change stamp records from.
     let same = c.in-Ok-false.ensures.last c.in-Ok-false.field-0-test in
-    subst (λ (x : Reading). ReadsWell start c.args.cursor.now x records) (sym same) (c.loop-place.invariant.well start d m change stamp records from)
+    subst (λ (x : Cursor). ReadsWell start c.args.cursor.now x records) (sym same) (c.loop-place.invariant.well start d m change stamp records from)
 
 -- a read failed
 pub returns-in_default-clause-puts : goal.returns-in_default-clause-puts

@@ -8,7 +8,7 @@ use Rattle.cms_fields.specs.declared.time.Stamp.{Stamp}
 use Rattle.cms_names.specs.declared.name.Name.{Name}
 use Rattle.cms_search.specs.Machine.{Machine, letter_at}
 use Rattle.cms_search.specs.Searches.{found_at}
-use Rattle.cms_search.specs.Tables.{Accesses}
+use Rattle.cms_search.specs.Tables.{AccessTable}
 use Rattle.cms_search.specs.Shows.{Shows}
 use Rattle.cms_search.specs.declared.fault.SearchFault.{SearchFault}
 use Rattle.cms_files.specs.Files.{UnitFile, file_on}
@@ -32,7 +32,7 @@ unwrap-requires c =
     subst (λ (o : Option ℕ). IsSome o) (sym c.requires.place) (named_placed c.args.table.now f.letter f.name c.args.own.now c.requires.there)
 
 -- where it is
-placed : (t : Accesses) (n : ℕ) (name : Name) (there : Option ℕ) (k : ℕ) → there ≡ place_named t n name → there ≡ Some k → IsFoundAt t (found_at n k) name
+placed : (t : AccessTable) (n : ℕ) (name : Name) (there : Option ℕ) (k : ℕ) → there ≡ place_named t n name → there ≡ Some k → IsFoundAt t (found_at n k) name
 placed t n name there k is some = placed_named t n name k (sym is ∙ some)
 
 pub unwrap-stored-requires : goal.unwrap-stored-requires

@@ -1,5 +1,5 @@
 use Rattle.std.proofs.Common.{◌∙◌}
-use Rattle.cms_decks.proofs.Loading.{deck_dumped}
+use Rattle.cms_decks.proofs.Loaded.{deck_dumped}
 use Rattle.cms_decks.proofs.dump.write_deck.Goals as goal
 
 pub returns : goal.returns

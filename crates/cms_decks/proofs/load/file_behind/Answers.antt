@@ -2,7 +2,7 @@ use Rattle.std.proofs.Common.{◌≡◌, ◌∙◌, ℕ, List, ap, arith, sym, t
 use Rattle.std.specs.Option.{is_some}
 use Rattle.std.proofs.lemmas.List.{take_min}
 use Rattle.cms_decks.specs.Stored.{filling}
-use Rattle.cms_decks.proofs.Loading.{behind_so, data_of}
+use Rattle.cms_decks.proofs.Loaded.{behind_so, data_of}
 use Rattle.cms_decks.proofs.load.file_behind.Goals as goal
 
 pub returns : goal.returns

@@ -1,5 +1,5 @@
 use Rattle.std.proofs.lemmas.List.{take_rest}
-use Rattle.cms_decks.proofs.Loading.{in_so}
+use Rattle.cms_decks.proofs.Loaded.{in_so}
 use Rattle.cms_decks.proofs.load.file_in.Goals as goal
 
 pub returns-in-Some : goal.returns-in-Some

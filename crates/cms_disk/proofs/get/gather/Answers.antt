@@ -3,7 +3,7 @@ use Rattle.std.specs.Prelude.{max}
 use Rattle.cms_journal.specs.Journal.{contents_of}
 use Rattle.cms_model.specs.Trees.{image_of}
 use Rattle.cms_disk.specs.Cursors.{HandsOut, HasLeft}
-use Rattle.cms_disk.proofs.Gathering.{gather_first, gather_next}
+use Rattle.cms_disk.proofs.RecordsGathered.{gather_first, gather_next}
 use Rattle.cms_disk.proofs.get.gather.Goals as goal
 
 pub loop-bytes-init : goal.loop-bytes-init

@@ -1,6 +1,6 @@
 use Rattle.std.proofs.Common.{◌≡◌, ◌≤◌}
 use Rattle.cms_disk.specs.Cursors.{SameFile}
-use Rattle.cms_disk.proofs.Gathering.{GatherTo}
+use Rattle.cms_disk.proofs.RecordsGathered.{GatherTo}
 use Rattle.cms_disk.proofs.get.gather.Given as goal
 
 abbrev pub invariant-loop-bytes : goal.invariant-loop-bytes

@@ -1,6 +1,6 @@
-use Rattle.cms_disk.proofs.Finding.{stands_tells}
-use Rattle.cms_disk.proofs.Leaving.{looked_is_covered}
-use Rattle.cms_disk.proofs.Quieting.{quiet_rests, sync_quiets}
+use Rattle.cms_disk.proofs.CrashStates.{looked_is_covered}
+use Rattle.cms_disk.proofs.FilesFound.{stands_tells}
+use Rattle.cms_disk.proofs.QuietUnits.{quiet_rests, sync_quiets}
 use Rattle.cms_disk.proofs.laws.disk_laws.Goals as goal
 
 pub returns-clause-tells : goal.returns-clause-tells

@@ -1,7 +1,7 @@
 use Rattle.std.proofs.Common.{[], ◌∷◌, sym, ◌∙◌}
 use Rattle.cms_journal.specs.declared.event.Event.TheVariants.{Synced}
 use Rattle.cms_disk.specs.Disks.{disk_on}
-use Rattle.cms_disk.proofs.Quieting.{synced_told}
+use Rattle.cms_disk.proofs.QuietUnits.{synced_told}
 use Rattle.cms_disk.proofs.minidisk.settle.Goals as goal
 
 pub returns-in-Ok-clause-quiet : goal.returns-in-Ok-clause-quiet

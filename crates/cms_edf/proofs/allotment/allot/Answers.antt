@@ -1,20 +1,20 @@
 -- What is needed, and whether it is there.
 use Rattle.std.proofs.Common.{◌∙◌, ap, length, subst, arith, ℕ, sym, ◌/◌}
 use Rattle.cms_map.specs.Bits.{free_blocks, HasFixed}
+use Rattle.cms_held.specs.HeldVolumes.{Held}
 use Rattle.cms_held.specs.Kept.{Keeps}
-use Rattle.cms_held.specs.Opening.{Holding}
 use Rattle.cms_edf.proofs.AllottedSteps.{Splits, splits_asked}
 use Rattle.cms_model.specs.DirectoryParts.{directory_count, blocks_made}
 use Rattle.cms_model.specs.Lists.{In}
-use Rattle.cms_model.specs.Sharing.{MayBeWritten}
+use Rattle.cms_model.specs.SharedTrees.{MayBeWritten}
 use Rattle.cms_tree.specs.Paths.{fresh_places}
-use Rattle.cms_edf.specs.Allotting.{numbers_made}
+use Rattle.cms_edf.specs.Allotments.{numbers_made}
 use Rattle.cms_edf.proofs.allotment.allot.Goals as goal
 use Rattle.cms_edf.proofs.allotment.allot.Goals.{In-Ok}
 
 splits : (c : In-Ok) → Splits c.args.held.now.volume c.args.exchange.now c.in-Ok.places
 splits c =
-    let kept : Keeps c.args.held.now.volume = subst (λ (h : Holding). Keeps h.volume) c.held.view_is c.held.invariant.kept in
+    let kept : Keeps c.args.held.now.volume = subst (λ (h : Held). Keeps h.volume) c.held.view_is c.held.invariant.kept in
     splits_asked c.args.held.now.volume c.args.exchange.now c.in-Ok.places kept c.requires.few c.in-Ok.ensures.leaves c.in-Ok.ensures.nodes c.requires.first c.requires.may
 
 pub written_count-requires : goal.written_count-requires
@@ -48,7 +48,7 @@ returns-then-free-need-clause-full c =
     let count = c.written_count.ensures in
     let charge = c.map_blocks.ensures in (
       omega (arith, needs, count, charge),
-      c.free_count-free.ensures.count ∙ ap (λ (h : Holding). length (free_blocks h.volume.bits)) c.held.view_is,
+      c.free_count-free.ensures.count ∙ ap (λ (h : Held). length (free_blocks h.volume.bits)) c.held.view_is,
       c.if-free-need.true,
     )
 
@@ -66,15 +66,15 @@ returns-in-Ok-allot_all-clause-room c =
     let needs = s.need_is in
     let count = c.written_count.ensures in
     let charge = c.map_blocks.ensures in
-    let free = c.free_count-free.ensures.count ∙ ap (λ (h : Holding). length (free_blocks h.volume.bits)) c.held.view_is in
+    let free = c.free_count-free.ensures.count ∙ ap (λ (h : Held). length (free_blocks h.volume.bits)) c.held.view_is in
     let enough = c.if-free-need.false in
     omega (arith, needs, count, charge, free, enough)
 
 pub returns-in_default-clause-fixed : goal.returns-in_default-clause-fixed
-returns-in_default-clause-fixed c = subst (λ (h : Holding). HasFixed h.volume.bits) c.held.view_is c.free_count-free.ensures.fixed
+returns-in_default-clause-fixed c = subst (λ (h : Held). HasFixed h.volume.bits) c.held.view_is c.free_count-free.ensures.fixed
 
 pub returns-then-free-need-clause-fixed : goal.returns-then-free-need-clause-fixed
-returns-then-free-need-clause-fixed c = subst (λ (h : Holding). HasFixed h.volume.bits) c.held.view_is c.free_count-free.ensures.fixed
+returns-then-free-need-clause-fixed c = subst (λ (h : Held). HasFixed h.volume.bits) c.held.view_is c.free_count-free.ensures.fixed
 
 pub allot_all-requires-clause-few : goal.allot_all-requires-clause-few
 allot_all-requires-clause-few c = c.requires.few
@@ -93,7 +93,7 @@ allot_all-requires-clause-first c = subst (In 0) (sym c.in-Ok.ensures.leaves) c.
 pub allot_all-requires-clause-may : goal.allot_all-requires-clause-may
 allot_all-requires-clause-may c =
     let v = c.args.held.now.volume in
-    let kept : Keeps v = subst (λ (h : Holding). Keeps h.volume) c.held.view_is c.held.invariant.kept in
+    let kept : Keeps v = subst (λ (h : Held). Keeps h.volume) c.held.view_is c.held.invariant.kept in
     let count = directory_count v.disk.bsize c.args.exchange.now.files in
     subst (MayBeWritten (length v.directory.leaves) count) (sym c.in-Ok.ensures.leaves)
     (subst (λ (n : ℕ). MayBeWritten n count (blocks_made v.disk.bsize c.args.exchange.now.files (numbers_made c.args.exchange.now))) (sym kept.directory_is) c.requires.may)
@@ -102,7 +102,7 @@ pub returns-in-Ok-allot_all-clause-allotted : goal.returns-in-Ok-allot_all-claus
 returns-in-Ok-allot_all-clause-allotted c = c.in-Ok-allot_all.ensures
 
 pub returns-in-Ok-allot_all-clause-fixed : goal.returns-in-Ok-allot_all-clause-fixed
-returns-in-Ok-allot_all-clause-fixed c = subst (λ (h : Holding). HasFixed h.volume.bits) c.held.view_is c.free_count-free.ensures.fixed
+returns-in-Ok-allot_all-clause-fixed c = subst (λ (h : Held). HasFixed h.volume.bits) c.held.view_is c.free_count-free.ensures.fixed
 
 pub returns-in-Err-clause-fixed : goal.returns-in-Err-clause-fixed
-returns-in-Err-clause-fixed c = subst (λ (h : Holding). HasFixed h.volume.bits) c.held.view_is c.free_count-free.ensures.fixed
+returns-in-Err-clause-fixed c = subst (λ (h : Held). HasFixed h.volume.bits) c.held.view_is c.free_count-free.ensures.fixed

@@ -2,19 +2,19 @@
 use Rattle.std.proofs.Common.{◌≡◌, ◌∙◌, ◌+◌, ◌-◌, ◌≤◌, ℕ, List, ◌++◌, length, take, drop, refl, sym, ap, subst, rules, arith, length-drop}
 use Rattle.cms_map.specs.Bits.{free_blocks, with_marked}
 use Rattle.cms_map.specs.Touched.{AreTouched}
-use Rattle.cms_held.specs.Allotting.{on_map}
+use Rattle.cms_held.specs.Allotments.{on_map}
+use Rattle.cms_held.specs.HeldVolumes.{Held}
 use Rattle.cms_held.specs.Kept.{Keeps}
 use Rattle.cms_held.specs.MapShares.{turned}
-use Rattle.cms_held.specs.Opening.{Holding}
-use Rattle.cms_held.specs.Renewing.{with_freed}
-use Rattle.cms_edf.specs.Allotting.{MapIsShared, SharesDirectory, given_back}
+use Rattle.cms_held.specs.Renewals.{with_freed}
+use Rattle.cms_edf.specs.Allotments.{MapIsShared, SharesDirectory, given_back}
 use Rattle.cms_edf.proofs.AllottedSteps.{Splits, allotted_so, splits_so}
 use Rattle.cms_edf.proofs.Exits.{ok_at_err}
 use Rattle.cms_edf.proofs.allotment.allot_all.Goals as goal
 use Rattle.cms_edf.proofs.allotment.allot_all.Goals.{After-take_blocks}
 
 kept_at : (c : After-take_blocks) → Keeps c.args.held.now.volume
-kept_at c = subst (λ (h : Holding). Keeps h.volume) c.held.view_is c.held.invariant.kept
+kept_at c = subst (λ (h : Held). Keeps h.volume) c.held.view_is c.held.invariant.kept
 
 splits : (c : After-take_blocks) → Splits c.args.held.now.volume c.args.exchange.now c.args.places
 splits c =
@@ -50,7 +50,7 @@ long : (taken lowest : List ℕ) (need : ℕ) → taken ≡ lowest → length lo
 long taken lowest need same is = ap (λ (l : List ℕ). length l) same ∙ is
 
 pub take_map-requires-clause-kept : goal.take_map-requires-clause-kept
-take_map-requires-clause-kept c = subst (λ (h : Holding). Keeps h.volume) c.held.view_is c.held.invariant.kept
+take_map-requires-clause-kept c = subst (λ (h : Held). Keeps h.volume) c.held.view_is c.held.invariant.kept
 
 pub take_map-requires-clause-room : goal.take_map-requires-clause-room
 take_map-requires-clause-room c =
@@ -77,14 +77,14 @@ take_map-requires-clause-lowest c =
     let many = long c.deref-3.result.now c.in_ok-lowest.field-0.blocks.items c.args.need c.deref-3.ensures.value c.in_ok-lowest.ensures.long in
     c.deref-3.ensures.value
     ∙ (c.in_ok-lowest.ensures.blocks
-    ∙ (ap (λ (h : Holding). take c.args.need (free_blocks h.volume.bits)) c.held.view_is ∙ ap (λ (n : ℕ). take n (free_blocks c.args.held.now.volume.bits)) (sym many)))
+    ∙ (ap (λ (h : Held). take c.args.need (free_blocks h.volume.bits)) c.held.view_is ∙ ap (λ (n : ℕ). take n (free_blocks c.args.held.now.volume.bits)) (sym many)))
 
 pub returns : goal.returns
 returns c =
     let v = c.args.held.now.volume in
     let x = c.args.exchange.now in
     let asked = c.args.places in
-    let kept : Keeps v = subst (λ (h : Holding). Keeps h.volume) c.held.view_is c.held.invariant.kept in
+    let kept : Keeps v = subst (λ (h : Held). Keeps h.volume) c.held.view_is c.held.invariant.kept in
     let s = splits_so v x asked kept c.requires.few c.requires.written c.requires.nodes c.requires.first c.requires.may in
     let lowest = c.in_ok-lowest.field-0.blocks.items in
     let released = c.in_ok-released.released.items in
@@ -93,7 +93,7 @@ returns c =
     let shared = new.new.shared in
     let used = x.file + c.written_count.result - 1 in
     let all = used + (length shared.places.leaves + length shared.places.nodes) in
-    let low = c.in_ok-lowest.ensures.blocks ∙ ap (λ (h : Holding). take c.args.need (free_blocks h.volume.bits)) c.held.view_is in
+    let low = c.in_ok-lowest.ensures.blocks ∙ ap (λ (h : Held). take c.args.need (free_blocks h.volume.bits)) c.held.view_is in
     let copy : c.in_ok-file.file.items ≡ c.split_at.result.0.now = search rules in
     let file = copy ∙ (c.split_at.ensures.front ∙ ap (take x.file) c.deref.ensures.value) in
     let behind = c.split_at.ensures.back ∙ ap (drop x.file) c.deref.ensures.value in

@@ -1,5 +1,5 @@
 use Rattle.std.proofs.Common.{◌≡◌, ◌++◌, take}
-use Rattle.cms_held.specs.Allotting.{on_map}
+use Rattle.cms_held.specs.Allotments.{on_map}
 use Rattle.cms_edf.proofs.allotment.append_on_map.Given as goal
 
 abbrev pub invariant-loop-block : goal.invariant-loop-block

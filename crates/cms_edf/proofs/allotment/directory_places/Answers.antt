@@ -5,10 +5,10 @@ use Rattle.cms_fields.specs.Numbers.{up}
 use Rattle.cms_model.specs.DirectoryParts.{blocks_made, directory_count}
 use Rattle.cms_model.proofs.DirectoryParts.{blocks_ascend}
 use Rattle.cms_tree.specs.Paths.{fresh_places}
-use Rattle.cms_held.specs.Opening.{Holding}
+use Rattle.cms_held.specs.HeldVolumes.{Held}
 use Rattle.cms_held.specs.Systems.{TreePart}
-use Rattle.cms_held.proofs.Allotting.{directory_some}
-use Rattle.cms_edf.specs.Allotting.{numbers_made}
+use Rattle.cms_held.proofs.Allotted.{directory_some}
+use Rattle.cms_edf.specs.Allotments.{numbers_made}
 use Rattle.cms_edf.proofs.Exits.{ok_at_err}
 use Rattle.cms_edf.proofs.Rounded.{four_to_a_pointer, rounded}
 use Rattle.cms_edf.proofs.allotment.directory_places.Goals as goal
@@ -42,16 +42,16 @@ pub returns-clause-leaves : goal.returns-clause-leaves
 returns-clause-leaves c =
     let x = c.args.exchange.now in
     let v = c.args.held.now.volume in
-    let written = c.in_ok-written.ensures ∙ ap (λ (h : Holding). blocks_made h.volume.disk.bsize x.files (numbers_made x)) c.held.view_is in
+    let written = c.in_ok-written.ensures ∙ ap (λ (h : Held). blocks_made h.volume.disk.bsize x.files (numbers_made x)) c.held.view_is in
     IfOk-weaker c.of_shared.result _ (λ (p : TreePart). p.leaves ≡ blocks_made v.disk.bsize x.files (numbers_made x)) (λ p is. is ∙ written) c.of_shared.ensures.leaves
 
 pub returns-clause-nodes : goal.returns-clause-nodes
 returns-clause-nodes c =
     let x = c.args.exchange.now in
     let v = c.args.held.now.volume in
-    let written = c.in_ok-written.ensures ∙ ap (λ (h : Holding). blocks_made h.volume.disk.bsize x.files (numbers_made x)) c.held.view_is in
-    let size = c.bytes-bsize.ensures.value ∙ ap (λ (h : Holding). h.volume.disk.bsize) c.held.view_is in
-    let before = c.leaves.ensures ∙ ap (λ (h : Holding). h.volume.directory.leaves) c.held.view_is in
+    let written = c.in_ok-written.ensures ∙ ap (λ (h : Held). blocks_made h.volume.disk.bsize x.files (numbers_made x)) c.held.view_is in
+    let size = c.bytes-bsize.ensures.value ∙ ap (λ (h : Held). h.volume.disk.bsize) c.held.view_is in
+    let before = c.leaves.ensures ∙ ap (λ (h : Held). h.volume.directory.leaves) c.held.view_is in
     let count = rounded c.div_ceil-count.result (64 * (x.files + 2)) c.bytes-bsize.result c.div_ceil-count.ensures c.bytes-bsize.ensures.least in
     let count' = count ∙ ap (up (64 * (x.files + 2))) size in
     IfOk-weaker c.of_shared.result _

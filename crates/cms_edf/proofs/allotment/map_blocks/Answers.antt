@@ -1,8 +1,8 @@
 -- The map's data blocks, and the pointer blocks over them.
 use Rattle.std.proofs.Common.{◌≡◌, ◌≤◌, ◌+◌, ℕ, sym, subst, arith}
 use Rattle.cms_model.specs.Sizes.{map_size}
-use Rattle.cms_held.specs.Opening.{Holding}
-use Rattle.cms_held.proofs.Allotting.{map_some}
+use Rattle.cms_held.specs.HeldVolumes.{Held}
+use Rattle.cms_held.proofs.Allotted.{map_some}
 use Rattle.cms_edf.proofs.AllottedSteps.{map_is, map_low}
 use Rattle.cms_edf.proofs.Rounded.{four_to_a_pointer, map_rounded}
 use Rattle.cms_edf.proofs.allotment.map_blocks.Goals as goal
@@ -31,5 +31,5 @@ returns c =
     let leaves = c.div_ceil-data.result in
     let nodes = c.shape.result.pointers in
     let count = map_rounded leaves c.div_ceil.result total c.bytes-bytes.result c.div_ceil-data.ensures c.div_ceil.ensures c.bytes-bytes.ensures.least in
-    subst (λ (h : Holding). leaves + nodes ≡ map_size h.volume.disk.bsize h.volume.label.blocks) c.held.view_is
+    subst (λ (h : Held). leaves + nodes ≡ map_size h.volume.disk.bsize h.volume.label.blocks) c.held.view_is
     (subst (λ (n : ℕ). leaves + nodes ≡ map_size n total) c.bytes-bytes.ensures.value (map_is c.bytes-bytes.result total leaves nodes count c.shape.ensures.pointers))

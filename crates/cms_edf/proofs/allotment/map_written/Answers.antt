@@ -2,9 +2,9 @@
 use Rattle.std.proofs.Common.{◌≡◌, ◌∙◌, ◌+◌, ◌≤◌, ℕ, List, ◌++◌, All, length, take, sym, ap, subst, arith}
 use Rattle.std.proofs.lemmas.Grind.{common_steps}
 use Rattle.cms_map.specs.Touched.{AreTouched}
-use Rattle.cms_held.specs.Allotting.{on_map}
+use Rattle.cms_held.specs.Allotments.{on_map}
+use Rattle.cms_held.specs.HeldVolumes.{Held}
 use Rattle.cms_held.specs.MapShares.{turned}
-use Rattle.cms_held.specs.Opening.{Holding}
 use Rattle.cms_edf.proofs.BlocksMade.{all_on_map, turned_some}
 use Rattle.cms_edf.proofs.Exits.{ok_at_err}
 use Rattle.cms_edf.proofs.allotment.map_written.Goals as goal
@@ -15,7 +15,7 @@ touched-requires-clause-blocks c =
     let v = c.args.held.now.volume in
     let blocks = c.args.lowest.now ++ (c.args.released.now ++ (v.map.leaves ++ v.map.pointers)) in
     let is = c.deref.ensures.value ∙ c.in_ok-blocks.ensures in
-    let total : v.label.blocks ≡ length c.held.inside.map = sym (ap (λ (h : Holding). h.volume.label.blocks) c.held.view_is) ∙ sym c.held.invariant.kept.bits_are in
+    let total : v.label.blocks ≡ length c.held.inside.map = sym (ap (λ (h : Held). h.volume.label.blocks) c.held.view_is) ∙ sym c.held.invariant.kept.bits_are in
     subst (λ (l : List ℕ). All (λ (n : ℕ). (1 ≤ n) × (n ≤ length c.held.inside.map)) l) (sym is)
     (subst (λ (k : ℕ). All (λ (n : ℕ). (1 ≤ n) × (n ≤ k)) (on_map v.label.blocks blocks)) total (all_on_map v.label.blocks blocks))
 
@@ -25,7 +25,7 @@ returns c =
     let lowest = c.args.lowest.now in
     let given = c.args.released.now in
     let t = c.touched.ensures.touched in
-    let size = c.bytes-bsize.ensures.value ∙ ap (λ (h : Holding). h.volume.disk.bsize) c.held.view_is in
+    let size = c.bytes-bsize.ensures.value ∙ ap (λ (h : Held). h.volume.disk.bsize) c.held.view_is in
     let listed = c.deref.ensures.value ∙ c.in_ok-blocks.ensures in
     let some : 1 ≤ c.args.used + length given =
     elim c.else-used-eq0.branch [

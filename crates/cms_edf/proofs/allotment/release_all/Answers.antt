@@ -1,6 +1,6 @@
 -- One block after another is freed, where it may be.
 use Rattle.std.proofs.Common.{◌∙◌, sym, rules}
-use Rattle.cms_held.proofs.Allotting.{freed_none, passed_more, released_more}
+use Rattle.cms_held.proofs.Allotted.{freed_none, passed_more, released_more}
 use Rattle.cms_edf.proofs.allotment.release_all.Goals as goal
 use Rattle.cms_edf.proofs.allotment.release_all.Goals.{then-may_be_free, else-may_be_free}
 

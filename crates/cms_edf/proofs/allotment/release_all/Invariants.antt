@@ -1,5 +1,5 @@
 use Rattle.std.proofs.Common.{◌≡◌, length, take}
-use Rattle.cms_held.specs.Renewing.{with_freed}
+use Rattle.cms_held.specs.Renewals.{with_freed}
 use Rattle.cms_edf.proofs.allotment.release_all.Given as goal
 
 abbrev pub invariant-loop-block : goal.invariant-loop-block

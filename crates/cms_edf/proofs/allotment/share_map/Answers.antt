@@ -2,10 +2,10 @@
 use Rattle.std.proofs.Common.{◌≡◌, ◌∙◌, ◌/◌, ◌≤◌, ℕ, List, length, sym, ap, subst, arith}
 use Rattle.std.specs.List.Sorted.{IsStrictlyIncreasing}
 use Rattle.cms_journal.proofs.Sizes.{block_bounds}
-use Rattle.cms_model.specs.Sharing.{MayBeWritten}
+use Rattle.cms_model.specs.SharedTrees.{MayBeWritten}
 use Rattle.cms_tree.specs.Paths.{fresh_places}
+use Rattle.cms_held.specs.HeldVolumes.{HeldTree, HeldVolume, Held}
 use Rattle.cms_held.specs.Kept.{Keeps}
-use Rattle.cms_held.specs.Opening.{HeldTree, HeldVolume, Holding}
 use Rattle.cms_held.specs.SharedBlocks.{released_of}
 use Rattle.cms_held.specs.Systems.{TreePart}
 use Rattle.cms_edf.proofs.AllottedSteps.{MayShare, map_share, map_shares_so, map_tree}
@@ -32,10 +32,10 @@ shares v bytes old leaves written places kept size n same may own nodes =
 pub of_shared-requires : goal.of_shared-requires
 of_shared-requires c =
     let v = c.args.held.now.volume in
-    let kept : Keeps v = subst (λ (h : Holding). Keeps h.volume) c.held.view_is c.held.invariant.kept in
+    let kept : Keeps v = subst (λ (h : Held). Keeps h.volume) c.held.view_is c.held.invariant.kept in
     let low = (block_bounds v.disk.bsize kept.sized).0 in
-    let size = c.bytes-fan.ensures.value ∙ ap (λ (h : Holding). h.volume.disk.bsize) c.held.view_is in
-    let n = c.leaves.ensures ∙ ap (λ (h : Holding). h.volume.map.leaves) c.held.view_is in
+    let size = c.bytes-fan.ensures.value ∙ ap (λ (h : Held). h.volume.disk.bsize) c.held.view_is in
+    let n = c.leaves.ensures ∙ ap (λ (h : Held). h.volume.map.leaves) c.held.view_is in
     let some = subst (λ (l : List ℕ). 1 ≤ length l) (sym n) kept.map_shape.some in
     record {
       some_before = some;
@@ -47,11 +47,11 @@ of_shared-requires c =
 pub shared_tree-requires : goal.shared_tree-requires
 shared_tree-requires c =
     let v = c.args.held.now.volume in
-    let kept : Keeps v = subst (λ (h : Holding). Keeps h.volume) c.held.view_is c.held.invariant.kept in
-    let size = c.bytes-fan.ensures.value ∙ ap (λ (h : Holding). h.volume.disk.bsize) c.held.view_is in
-    let n = c.leaves.ensures ∙ ap (λ (h : Holding). h.volume.map.leaves) c.held.view_is in
+    let kept : Keeps v = subst (λ (h : Held). Keeps h.volume) c.held.view_is c.held.invariant.kept in
+    let size = c.bytes-fan.ensures.value ∙ ap (λ (h : Held). h.volume.disk.bsize) c.held.view_is in
+    let n = c.leaves.ensures ∙ ap (λ (h : Held). h.volume.map.leaves) c.held.view_is in
     let written = c.args.written.items in
-    let s = shares v c.bytes-fan.result c.held.inside.map_tree c.leaves.result.now written c.in_ok-places.places kept size n (ap (λ (h : Holding). h.volume.map) c.held.view_is) c.requires.may
+    let s = shares v c.bytes-fan.result c.held.inside.map_tree c.leaves.result.now written c.in_ok-places.places kept size n (ap (λ (h : Held). h.volume.map) c.held.view_is) c.requires.may
     c.in_ok-places.ensures.leaves c.in_ok-places.ensures.nodes in
     let nodes = c.in_ok-places.ensures.nodes ∙ (λ i. fresh_places (size i / 4) (length (n i)) (length (n i)) written) in
     let few = map_few v.disk.bsize v.label.blocks (length v.map.leaves) c.in_ok-places.places written c.requires.may c.in_ok-places.ensures.leaves nodes
@@ -70,10 +70,10 @@ shared_tree-requires c =
 pub left_blocks-requires : goal.left_blocks-requires
 left_blocks-requires c =
     let v = c.args.held.now.volume in
-    let kept : Keeps v = subst (λ (h : Holding). Keeps h.volume) c.held.view_is c.held.invariant.kept in
-    let size = c.bytes-fan.ensures.value ∙ ap (λ (h : Holding). h.volume.disk.bsize) c.held.view_is in
-    let n = c.leaves.ensures ∙ ap (λ (h : Holding). h.volume.map.leaves) c.held.view_is in
-    let s = shares v c.bytes-fan.result c.held.inside.map_tree c.leaves.result.now c.args.written.items c.in_ok-places.places kept size n (ap (λ (h : Holding). h.volume.map) c.held.view_is)
+    let kept : Keeps v = subst (λ (h : Held). Keeps h.volume) c.held.view_is c.held.invariant.kept in
+    let size = c.bytes-fan.ensures.value ∙ ap (λ (h : Held). h.volume.disk.bsize) c.held.view_is in
+    let n = c.leaves.ensures ∙ ap (λ (h : Held). h.volume.map.leaves) c.held.view_is in
+    let s = shares v c.bytes-fan.result c.held.inside.map_tree c.leaves.result.now c.args.written.items c.in_ok-places.places kept size n (ap (λ (h : Held). h.volume.map) c.held.view_is)
     c.requires.may c.in_ok-places.ensures.leaves c.in_ok-places.ensures.nodes in
     let again = c.deref.ensures.value ∙ ap (λ (p : TreePart). p.leaves) c.places.view_is in
     record {
@@ -88,15 +88,15 @@ left_blocks-requires c =
 pub returns : goal.returns
 returns c =
     let v = c.args.held.now.volume in
-    let kept : Keeps v = subst (λ (h : Holding). Keeps h.volume) c.held.view_is c.held.invariant.kept in
+    let kept : Keeps v = subst (λ (h : Held). Keeps h.volume) c.held.view_is c.held.invariant.kept in
     let low = (block_bounds v.disk.bsize kept.sized).0 in
-    let size = c.bytes-fan.ensures.value ∙ ap (λ (h : Holding). h.volume.disk.bsize) c.held.view_is in
-    let n = c.leaves.ensures ∙ ap (λ (h : Holding). h.volume.map.leaves) c.held.view_is in
+    let size = c.bytes-fan.ensures.value ∙ ap (λ (h : Held). h.volume.disk.bsize) c.held.view_is in
+    let n = c.leaves.ensures ∙ ap (λ (h : Held). h.volume.map.leaves) c.held.view_is in
     let old = c.held.inside.map_tree in
     let fan = c.bytes-fan.result / 4 in
     let again = c.deref.ensures.value ∙ ap (λ (p : TreePart). p.leaves) c.places.view_is in
     map_shares_so v fan (length c.leaves.result.now) old c.args.written.items c.args.blocks.now c.in_ok-places.places c.in_ok-tree.tree c.in_ok-left.left.items (wide v.disk.bsize low) kept.map_is c.requires.may
-    (ap (λ (k : ℕ). k / 4) size) (ap (λ (l : List ℕ). length l) n) (ap (λ (h : Holding). h.volume.map) c.held.view_is) c.in_ok-places.ensures.leaves c.in_ok-places.ensures.nodes
+    (ap (λ (k : ℕ). k / 4) size) (ap (λ (l : List ℕ). length l) n) (ap (λ (h : Held). h.volume.map) c.held.view_is) c.in_ok-places.ensures.leaves c.in_ok-places.ensures.nodes
     (record {
       keeps = c.in_ok-tree.ensures.keeps;
       long = c.in_ok-tree.ensures.count;

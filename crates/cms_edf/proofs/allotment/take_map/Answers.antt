@@ -3,10 +3,10 @@ use Rattle.std.proofs.Common.{◌≡◌, ◌∙◌, ◌+◌, ◌-◌, ◌<◌, �
 use Rattle.cms_journal.proofs.Sizes.{block_bounds}
 use Rattle.cms_map.specs.Bits.{free_blocks, with_marked}
 use Rattle.cms_map.specs.Touched.{AreTouched}
-use Rattle.cms_held.specs.Allotting.{on_map}
+use Rattle.cms_held.specs.Allotments.{on_map}
 use Rattle.cms_held.specs.MapShares.{turned}
-use Rattle.cms_held.specs.Renewing.{with_freed}
-use Rattle.cms_edf.specs.Allotting.{MapIsShared}
+use Rattle.cms_held.specs.Renewals.{with_freed}
+use Rattle.cms_edf.specs.Allotments.{MapIsShared}
 use Rattle.cms_edf.proofs.Exits.{ok_at_err}
 use Rattle.cms_edf.proofs.PartsReady.{map_may}
 use Rattle.cms_edf.proofs.allotment.take_map.Goals as goal

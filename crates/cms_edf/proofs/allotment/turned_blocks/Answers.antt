@@ -1,7 +1,7 @@
 use Rattle.cms_edf.proofs.Exits.{ok_at_err}
 use Rattle.std.proofs.Common.{◌++◌, ◌∙◌, ap}
-use Rattle.cms_held.specs.Allotting.{on_map}
-use Rattle.cms_held.specs.Opening.{Holding}
+use Rattle.cms_held.specs.Allotments.{on_map}
+use Rattle.cms_held.specs.HeldVolumes.{Held}
 use Rattle.cms_edf.proofs.BlocksMade.{on_map_joined}
 use Rattle.cms_edf.proofs.Exits.{ok_at_err}
 use Rattle.cms_edf.proofs.allotment.turned_blocks.Goals as goal
@@ -16,9 +16,9 @@ pub returns : goal.returns
 returns c =
     let lowest = c.args.lowest.now in
     let released = c.args.released.now in
-    let total = ap (λ (h : Holding). h.volume.label.blocks) c.held.view_is in
-    let leaves = c.leaves.ensures ∙ ap (λ (h : Holding). h.volume.map.leaves) c.held.view_is in
-    let pointers = c.pointers.ensures ∙ ap (λ (h : Holding). h.volume.map.pointers) c.held.view_is in
+    let total = ap (λ (h : Held). h.volume.label.blocks) c.held.view_is in
+    let leaves = c.leaves.ensures ∙ ap (λ (h : Held). h.volume.map.leaves) c.held.view_is in
+    let pointers = c.pointers.ensures ∙ ap (λ (h : Held). h.volume.map.pointers) c.held.view_is in
     on_map_joined c.held.inside.label.blocks lowest released c.leaves.result.now c.pointers.result.now _ _ _ _ _ c.in_ok-blocks.ensures.items c.in_ok-append_on_map.ensures
     c.in_ok-append_on_map-2.ensures c.in_ok-append_on_map-3.ensures c.in_ok-append_on_map-4.ensures
     ∙ (λ i. on_map (total i) (lowest ++ (released ++ (leaves i ++ pointers i))))

@@ -12,7 +12,7 @@ use Rattle.cms_fields.specs.declared.entry.Entry.{Entry}
 use Rattle.cms_model.specs.Trees.{image_of}
 use Rattle.cms_tree.specs.Walks.{IsWithin}
 use Rattle.cms_tree.specs.declared.types.Walked.{Walked}
-use Rattle.cms_held.specs.Opening.{HeldFile}
+use Rattle.cms_held.specs.HeldVolumes.{HeldFile}
 use Rattle.cms_edf.specs.EntryShapes.{EndsIn, HasSize}
 use Rattle.cms_held.specs.Kept.{IsKeptFile}
 use Rattle.cms_edf.proofs.FilesNamed.{keys_named, values_next, named_next, file_kept}

@@ -5,8 +5,8 @@ use Rattle.std.specs.Vec.Iter.{into_iter_items, into_iter_len}
 use Rattle.indexmap.specs.IndexMap.{values}
 use Rattle.cms_journal.specs.Journal.{contents_of}
 use Rattle.cms_model.specs.Trees.{image_of}
+use Rattle.cms_held.specs.HeldVolumes.{by_name, names_in}
 use Rattle.cms_held.specs.Kept.{IsKeptFile}
-use Rattle.cms_held.specs.Opening.{by_name, names_in}
 use Rattle.cms_edf.proofs.RecordsRead.{ContentsTo}
 use Rattle.cms_edf.proofs.contents.read_contents.Given as goal
 

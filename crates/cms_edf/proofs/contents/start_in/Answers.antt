@@ -1,5 +1,5 @@
 use Rattle.std.proofs.Common.{rules}
-use Rattle.cms_edf.proofs.Starting.{none_starts, starts_told}
+use Rattle.cms_edf.proofs.RecordStarts.{none_starts, starts_told}
 use Rattle.cms_edf.proofs.contents.start_in.Goals as goal
 
 pub returns-then-stored-bytes-eq0 : goal.returns-then-stored-bytes-eq0

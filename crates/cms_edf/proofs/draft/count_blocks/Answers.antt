@@ -2,7 +2,7 @@ use Rattle.std.proofs.Common.{◌≡◌, ◌*◌, ◌/◌, ◌≤◌, ℕ, ap, r
 use Rattle.std.proofs.Math.Nat.{mul-le-mul_left}
 use Rattle.cms_fields.specs.Numbers.{up}
 use Rattle.cms_model.proofs.Quotients.{up_spec}
-use Rattle.cms_held.proofs.Allotting.{nodes_few}
+use Rattle.cms_held.proofs.Allotted.{nodes_few}
 use Rattle.cms_edf.proofs.draft.count_blocks.Goals as goal
 
 pub returns-clause-small : goal.returns-clause-small

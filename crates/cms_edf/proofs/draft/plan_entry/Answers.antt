@@ -2,10 +2,10 @@ use Rattle.std.proofs.Common.{◌≡◌, ◌≤◌, ℕ, List, length, All, sym,
 use Rattle.cms_fields.specs.Limits.{most_files}
 use Rattle.cms_fields.specs.declared.entry.Entry.{Entry}
 use Rattle.cms_held.specs.Kept.{Keeps}
-use Rattle.cms_held.specs.Putting.{count_with}
-use Rattle.cms_held.specs.Renewing.{entries_held}
+use Rattle.cms_held.specs.Puts.{count_with}
+use Rattle.cms_held.specs.Renewals.{entries_held}
 use Rattle.cms_held.specs.Written.{CanWrite, ReadsBack}
-use Rattle.cms_edf.specs.Planning.{AreEnoughFor}
+use Rattle.cms_edf.specs.ChangePlans.{AreEnoughFor}
 use Rattle.cms_edf.proofs.DraftPlanned.{all_with, count_held, enough_with}
 use Rattle.cms_edf.proofs.Planned.{back_all, can_write_all}
 use Rattle.cms_edf.proofs.draft.plan_entry.Goals as goal

@@ -4,13 +4,13 @@ use Rattle.cms_fields.specs.Entries.{fan_of}
 use Rattle.cms_fields.specs.Limits.{most_files}
 use Rattle.cms_model.specs.Sizes.{levels, pointer_count}
 use Rattle.cms_held.specs.Kept.{Keeps}
-use Rattle.cms_held.specs.Putting.{AreFree, count_put, count_with}
-use Rattle.cms_held.specs.Opening.{HeldTree, Holding}
+use Rattle.cms_held.specs.Puts.{AreFree, count_put, count_with}
+use Rattle.cms_held.specs.HeldVolumes.{HeldTree, Held}
 use Rattle.cms_edf.specs.FileDrafts.{IsFilePlanned, entry_for}
-use Rattle.cms_edf.specs.Lacking.{LacksRoom}
+use Rattle.cms_edf.specs.NoRoom.{LacksRoom}
 use Rattle.cms_edf.proofs.DraftPlanned.{count_files, limits, need_is, planned_parts, put_places, some_stored, place_within}
 use Rattle.cms_held.specs.Written.{CanWrite}
-use Rattle.cms_draft.specs.Drafting.{IsFresh}
+use Rattle.cms_draft.specs.FileWriters.{IsFresh}
 use Rattle.cms_edf.proofs.draft.plan_file.Goals as goal
 
 count_low : (leaves nodes : ℕ) → leaves + nodes < 2 ^ 31 → leaves < 2 ^ 32
@@ -27,7 +27,7 @@ returns-in-Err-clause-full c =
     let v = c.args.held.now.volume in
     let k = c.count_blocks-counts.ensures in
     let r = c.count_blocks-counts.result in
-    let size = ap (λ (h : Holding). h.volume.disk.bsize) c.held.view_is in
+    let size = ap (λ (h : Held). h.volume.disk.bsize) c.held.view_is in
     let x = c.exchange_of-exchange.ensures in
     subst (λ (n : ℕ). LacksRoom v n c.in-Err.why)
     (need_is v c.args.name.now c.args.asked.now.format c.args.asked.now.bytes c.held.inside.bsize r.data r.pointers c.args.place c.exchange_of-exchange.result size k.data k.pointers c.requires.place
@@ -40,7 +40,7 @@ allot-requires c =
     let v = c.args.held.now.volume in
     let x = c.exchange_of-exchange.ensures in
     let k = c.count_blocks-counts.ensures in
-    let size : IsBlockSize v.disk.bsize = subst (λ (h : Holding). IsBlockSize h.volume.disk.bsize) c.held.view_is c.held.invariant.kept.sized in
+    let size : IsBlockSize v.disk.bsize = subst (λ (h : Held). IsBlockSize h.volume.disk.bsize) c.held.view_is c.held.invariant.kept.sized in
     let places = put_places v c.args.place c.exchange_of-exchange.result (entry_for v.disk.bsize c.args.name.now c.args.asked.now (record { leaves = []; pointers = [] })) size x.files
     (x.made ∙ c.entries_made_with-made.ensures) in
     let count : c.exchange_of-exchange.result.files ≡ count_put v c.args.name.now = count_files v c.args.name.now c.args.place _ c.requires.place x.files in
@@ -66,7 +66,7 @@ returns-clause-planned c =
     let t = c.in-Ok-tree_in in
     let tree = t.tree in
     let format = c.args.asked.now.format in
-    let size = ap (λ (h : Holding). h.volume.disk.bsize) c.held.view_is in
+    let size = ap (λ (h : Held). h.volume.disk.bsize) c.held.view_is in
     let fresh = c.in-Ok-new.ensures in
     let count = t.ensures.count in
     let x = c.exchange_of-exchange.ensures in
@@ -75,7 +75,7 @@ returns-clause-planned c =
     let height : r.levels ≡ levels (fan_of v.disk.bsize format) (length tree.leaves) =
     k.levels ∙ ap (λ (b : ℕ). levels (fan_of b format) r.data) size ∙ ap (levels (fan_of v.disk.bsize format)) (sym count) in
     let planned = planned_parts v c.args.name.now c.args.asked.now c.args.stamp.now c.args.place tree c.exchange_of-exchange.result a.allotment c.entry_for-entry.result c.in-Ok-plan_entry.systems (record {
-      kept = subst (λ (h : Holding). Keeps h.volume) c.held.view_is c.held.invariant.kept;
+      kept = subst (λ (h : Held). Keeps h.volume) c.held.view_is c.held.invariant.kept;
       size = rw (← size) k.size;
       stamped = c.requires.stamp;
       can = c.requires.asked;
@@ -94,7 +94,7 @@ returns-clause-planned c =
     record {
       entry_is = c.entry_for-entry.ensures v.disk.bsize height ∙ ap (entry_for v.disk.bsize c.args.name.now c.args.asked.now) (sym fresh.tree_is);
       shape_is = fresh.shape_is;
-      unit_is = fresh.unit_is ∙ ap (λ (h : Holding). h.volume.unit) c.held.view_is;
+      unit_is = fresh.unit_is ∙ ap (λ (h : Held). h.volume.unit) c.held.view_is;
       bsize_is = fresh.bsize_is ∙ size;
       new = fresh.kept;
       own = subst (AreFree v) (sym fresh.own) (planned 0).free;
@@ -147,7 +147,7 @@ plan_entry-requires-clause-entry c =
     let r = c.count_blocks-counts.result in
     let tree = c.in-Ok-tree_in.tree in
     let format = c.args.asked.now.format in
-    let size = ap (λ (h : Holding). h.volume.disk.bsize) c.held.view_is in
+    let size = ap (λ (h : Held). h.volume.disk.bsize) c.held.view_is in
     let count = c.in-Ok-tree_in.ensures.count in
     let height : r.levels ≡ levels (fan_of v.disk.bsize format) (length tree.leaves) =
     k.levels ∙ ap (λ (b : ℕ). levels (fan_of b format) r.data) size ∙ ap (levels (fan_of v.disk.bsize format)) (sym count) in
@@ -180,5 +180,5 @@ pub returns-clause-fresh : goal.returns-clause-fresh
 returns-clause-fresh c =
     let fresh = c.in-Ok-new.ensures in
     let w = c.in-Ok-new.writer in
-    subst (λ (h : Holding). IsFresh h.volume.unit h.volume.disk.bsize c.args.asked.now w.writer.tree w) c.held.view_is
+    subst (λ (h : Held). IsFresh h.volume.unit h.volume.disk.bsize c.args.asked.now w.writer.tree w) c.held.view_is
     (subst (λ (t : HeldTree). IsFresh c.held.inside.unit c.held.inside.bsize c.args.asked.now t w) (sym fresh.tree_is) fresh)

@@ -1,6 +1,6 @@
 use Rattle.std.proofs.Common.{rules, ◌≡◌, Ok}
 use Rattle.cms_fields.specs.Labels.{label_of}
-use Rattle.cms_model.proofs.Opening.{label_reads}
+use Rattle.cms_model.proofs.OpenedVolumes.{label_reads}
 use Rattle.cms_edf.proofs.entries.label_of.Goals as goal
 
 pub returns-in-Ok-clause-origin : goal.returns-in-Ok-clause-origin

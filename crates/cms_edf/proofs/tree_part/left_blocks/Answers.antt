@@ -1,6 +1,6 @@
 -- First the data blocks that aren't kept, then the pointer blocks.
 use Rattle.std.proofs.Common.{true, ◌++◌, length, ◌∙◌}
-use Rattle.cms_model.specs.Sharing.{is_kept}
+use Rattle.cms_model.specs.SharedTrees.{is_kept}
 use Rattle.cms_model.specs.SharedTimes.{gone, without}
 use Rattle.cms_tree.specs.Paths.{tree_levels}
 use Rattle.cms_edf.proofs.SharedTaken.{left_so}

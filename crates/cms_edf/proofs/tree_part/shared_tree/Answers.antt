@@ -2,10 +2,10 @@
 use Rattle.std.proofs.Common.{◌≡◌, ◌+◌, ◌≤◌, ℕ, true, List, ◌++◌, length, take, drop, ◌∙◌, ap, rules, arith, length-drop}
 use Rattle.std.specs.List.{concat}
 use Rattle.std.proofs.lemmas.List.{length-take-le}
-use Rattle.cms_model.specs.Sharing.{fresh_to}
+use Rattle.cms_model.specs.SharedTrees.{fresh_to}
 use Rattle.cms_model.specs.Sizes.{levels}
 use Rattle.cms_tree.specs.Paths.{numbered, path_levels}
-use Rattle.cms_tree.proofs.Pathing.{places_count}
+use Rattle.cms_tree.proofs.Paths.{places_count}
 use Rattle.cms_held.specs.Systems.{TreePart}
 use Rattle.cms_edf.proofs.SharedTaken.{IsShared, leaves_fresh, shared_so}
 use Rattle.cms_edf.proofs.Exits.{ok_at_err}

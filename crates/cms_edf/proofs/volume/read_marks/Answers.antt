@@ -8,7 +8,7 @@ use Rattle.cms_journal.specs.Journal.{contents_of}
 use Rattle.cms_model.specs.Trees.{Image, bytes_at, image_of}
 use Rattle.cms_map.specs.Bits.{bits_in}
 use Rattle.cms_tree.specs.declared.types.Walked.{Walked}
-use Rattle.cms_held.specs.Opening.{IsFaultOf}
+use Rattle.cms_held.specs.HeldVolumes.{IsFaultOf}
 use Rattle.cms_edf.proofs.volume.read_marks.Goals as goal
 
 pub bytes_of-requires : goal.bytes_of-requires

@@ -4,7 +4,7 @@ use Rattle.cms_journal.specs.Journal.{contents_of}
 use Rattle.cms_model.specs.Trees.{image_of}
 use Rattle.cms_model.specs.Volumes.{file_trees}
 use Rattle.cms_fields.specs.declared.entry.Entry.{Entry}
-use Rattle.cms_held.specs.Opening.{IsFaultOf}
+use Rattle.cms_held.specs.HeldVolumes.{IsFaultOf}
 use Rattle.cms_edf.specs.OpeningFiles.{HasFiles, HaveCounts}
 use Rattle.cms_edf.proofs.TreesRead.{map_bad, files_fail, trees_stand}
 use Rattle.cms_edf.proofs.Exits.{ok_at_err, reads_at_err, reads_at_ok, reads_then}

@@ -6,9 +6,9 @@ use Rattle.cms_search.proofs.Acts.{acts_after}
 use Rattle.cms_search.proofs.HandedRecords.{only_read}
 use Rattle.cms_world.specs.Seen.{seen}
 use Rattle.cms_files.proofs.OpenedFiles.{opened_open}
-use Rattle.cms_disk.proofs.Finding.{ok_maps}
+use Rattle.cms_disk.proofs.FilesFound.{ok_maps}
 use Rattle.cms_search.specs.Refusals.{unread_code}
-use Rattle.cms_search.specs.Tables.{Accesses}
+use Rattle.cms_search.specs.Tables.{AccessTable}
 use Rattle.cms_search.specs.declared.state.Course.{Course}
 use Rattle.cms_search.specs.declared.state.Course.TheVariants.{Went}
 use Rattle.cms_execio.specs.Diskr.{lines_on, stack_read}
@@ -284,4 +284,4 @@ returns-clause-goes_on g c = λ last forgets.
     kept.result start.result is (seen g.W.World c.loop-nth.world) c.loop-nth.cursor c.loop-nth.nth c.loop-nth.lines so.0 so.1 (omega arith) _ c.keep_behind.new.table
     none c.keep_behind.ensures in
     ok_each c.stack_read.result (GoesOnBehind c.stack_read.new.state.table n name count)
-    (λ x. inr (inr (subst (λ (z : Accesses). KeepsBehind z n name count) (sym (c.stack_read.ensures.table last)) keeps)))
+    (λ x. inr (inr (subst (λ (z : AccessTable). KeepsBehind z n name count) (sym (c.stack_read.ensures.table last)) keeps)))

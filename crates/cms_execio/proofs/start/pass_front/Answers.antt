@@ -1,5 +1,5 @@
 use Rattle.std.proofs.Common.{◌≡◌, ◌∙◌, inl, inr, refl, ap, sym, arith}
-use Rattle.cms_records.specs.Pieces.{Begun}
+use Rattle.cms_records.specs.Pieces.{RecordState}
 use Rattle.cms_names.specs.declared.name.Format.TheVariants.{F, V}
 use Rattle.cms_execio.proofs.start.pass_front.Goals as goal
 
@@ -11,7 +11,7 @@ returns-in-F-clause-past c =
     let skipped = c.skip.ensures in
     let left = skipped.left in
     record {
-      some = inr (c.args.cursor.now.begun.longest, ap (λ (b : Begun). b.fixed) (c.requires.unread c.in-F.is).begun);
+      some = inr (c.args.cursor.now.begun.longest, ap (λ (b : RecordState). b.fixed) (c.requires.unread c.in-F.is).begun);
       left = omega arith;
       rest = skipped.records;
       file = skipped.file;

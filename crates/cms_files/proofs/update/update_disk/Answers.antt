@@ -1,5 +1,5 @@
 use Rattle.std.proofs.lemmas.Result.{err_from_is_err_and}
-use Rattle.cms_edf.specs.Planning.{change_of}
+use Rattle.cms_edf.specs.ChangePlans.{change_of}
 use Rattle.cms_search.specs.Calls.{spot}
 use Rattle.cms_search.proofs.Stepped.{if_some, written_at}
 use Rattle.cms_files.proofs.Updates.{device_at, ends_told, update_cut, update_done, update_ends}

@@ -1,5 +1,5 @@
+use Rattle.cms_held.proofs.DraftBlocks.{draft_has_all, draft_is_put, draft_stays}
 use Rattle.cms_held.proofs.Drafted.{draft_holds}
-use Rattle.cms_held.proofs.Drafting.{draft_has_all, draft_is_put, draft_stays}
 use Rattle.cms_held.proofs.laws.draft_laws.Goals as goal
 
 pub returns-clause-holds : goal.returns-clause-holds

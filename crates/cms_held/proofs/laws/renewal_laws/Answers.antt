@@ -1,7 +1,7 @@
-use Rattle.cms_held.proofs.Keeping.{front_keeps_held}
-use Rattle.cms_held.proofs.Relabelling.{relabel_is_held}
+use Rattle.cms_held.proofs.StillHeld.{front_keeps_held}
+use Rattle.cms_held.proofs.Relabelled.{relabel_is_held}
 use Rattle.cms_held.proofs.PlannedWrites.{update_renews}
-use Rattle.cms_held.proofs.Answering.{edit_is_answered, renewed_is_changed}
+use Rattle.cms_held.proofs.Answered.{edit_is_answered, renewed_is_changed}
 use Rattle.cms_held.proofs.Centuries.{century_edits}
 use Rattle.cms_held.proofs.Edits.{drop_edits, rename_edits}
 use Rattle.cms_held.proofs.laws.renewal_laws.Goals as goal

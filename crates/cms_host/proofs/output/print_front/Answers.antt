@@ -1,7 +1,7 @@
 use Rattle.std.proofs.Common.{◌∙◌, ℕ, List, take, ap, arith, length-drop, length-take}
 use Rattle.std.proofs.lemmas.List.{take_rest}
 use Rattle.cms_host.specs.Deeds.{then_done, printing}
-use Rattle.cms_host.proofs.Printing.{printed_further}
+use Rattle.cms_host.proofs.Printed.{printed_further}
 use Rattle.cms_host.proofs.output.print_front.Goals as goal
 
 pub loop-printed-preserved : goal.loop-printed-preserved

@@ -1,4 +1,4 @@
-use Rattle.cms_machine.proofs.Asking.{asked_answers, asked_no_more, dropped_is_gone, none_asked, ran_beside, broke_beside, stay_distinct}
+use Rattle.cms_machine.proofs.ObjectsAsked.{asked_answers, asked_no_more, dropped_is_gone, none_asked, ran_beside, broke_beside, stay_distinct}
 use Rattle.cms_machine.proofs.laws.laws_of_objects.Goals as goal
 
 pub returns-clause-asked : goal.returns-clause-asked

@@ -3,7 +3,7 @@ use Rattle.std.specs.Prelude.{map}
 use Rattle.std.proofs.lemmas.List.{take_all}
 use Rattle.cms_map.specs.Touched.{data_block, IsLowest}
 use Rattle.std.proofs.Common.{refl}
-use Rattle.cms_map.proofs.Touching.{passed_more, found_more}
+use Rattle.cms_map.proofs.TouchedBlocks.{passed_more, found_more}
 use Rattle.cms_map.proofs.map.next_touched.Goals as goal
 use Rattle.cms_map.proofs.map.next_touched.Goals.{then-place-from, else-place-from}
 

@@ -1,4 +1,4 @@
-use Rattle.cms_model.proofs.Changing.{names_told, place_found, place_changed, none_added, stay_distinct}
+use Rattle.cms_model.proofs.ListChanges.{names_told, place_found, place_changed, none_added, stay_distinct}
 use Rattle.cms_model.proofs.OpenedNames.{opened_distinct}
 use Rattle.cms_model.proofs.laws.change_laws.Goals as goal
 

@@ -1,5 +1,5 @@
 use Rattle.cms_model.proofs.Fronts.{after_is_told, update_is_aside}
-use Rattle.cms_model.proofs.Settling.{settled_is_firm, untouched_starts, sync_settles, aside_is_as_before}
+use Rattle.cms_model.proofs.SettledUnits.{settled_is_firm, untouched_starts, sync_settles, aside_is_as_before}
 use Rattle.cms_model.proofs.laws.crash_state_laws.Goals as goal
 
 pub returns-clause-told : goal.returns-clause-told

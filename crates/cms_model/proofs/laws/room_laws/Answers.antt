@@ -1,5 +1,5 @@
 use Rattle.cms_model.proofs.DirectoryNeed.{directory_is_needed, place_is_named}
-use Rattle.cms_model.proofs.Needing.{need_taken, changed_where_made, full_where_lacking, limited_where_passing, room_kept}
+use Rattle.cms_model.proofs.Needs.{need_taken, changed_where_made, full_where_lacking, limited_where_passing, room_kept}
 use Rattle.cms_model.proofs.laws.room_laws.Goals as goal
 
 pub returns-clause-need : goal.returns-clause-need

@@ -1,5 +1,5 @@
-use Rattle.cms_model.proofs.Exchanging.{size_is_exchanged, takes_its_size}
-use Rattle.cms_model.proofs.Sharing.{all_is_whole, takes_no_more, behind_is_written}
+use Rattle.cms_model.proofs.Exchanges.{size_is_exchanged, takes_its_size}
+use Rattle.cms_model.proofs.SharedTrees.{all_is_whole, takes_no_more, behind_is_written}
 use Rattle.cms_model.proofs.ByLevels.{read_is_heaped}
 use Rattle.cms_model.proofs.SharedTiers.{shared_stands}
 use Rattle.cms_model.proofs.SharedTimes.{shared_times, leaves_times, came_is_fresh}

@@ -1,5 +1,5 @@
-use Rattle.cms_model.proofs.Standing.{stands_opens, opened_stands}
-use Rattle.cms_model.proofs.Renewing.{minidisk_is, renewed_stands}
+use Rattle.cms_model.proofs.Stands.{stands_opens, opened_stands}
+use Rattle.cms_model.proofs.Renewed.{minidisk_is, renewed_stands}
 use Rattle.cms_model.proofs.laws.standing_laws.Goals as goal
 
 pub returns-clause-opens : goal.returns-clause-opens

@@ -1,7 +1,7 @@
 use Rattle.cms_model.proofs.Shapes.{shape_least}
 use Rattle.cms_model.proofs.TreeFrame.{tree_keeps, tree_inside, tree_places}
 use Rattle.cms_model.proofs.TreeSizes.{tree_has_size, tree_first}
-use Rattle.cms_model.proofs.Building.{built_reads}
+use Rattle.cms_model.proofs.BuiltTrees.{built_reads}
 use Rattle.cms_model.proofs.Pointers.{only_pointers, pointers_read}
 use Rattle.cms_model.proofs.laws.tree_laws.Goals as goal
 

@@ -1,8 +1,8 @@
 use Rattle.cms_model.proofs.Fronts.{fronts_of_update}
-use Rattle.cms_model.proofs.Settling.{keeps_old}
-use Rattle.cms_model.proofs.Updating.{update_is_whole, relabel_is_whole}
-use Rattle.cms_model.proofs.Wiping.{wiped_is_none, wipe_is_whole, keeps_wiped, make_is_whole}
-use Rattle.cms_model.proofs.Putting.{update_is_put, apart_is_kept}
+use Rattle.cms_model.proofs.SettledUnits.{keeps_old}
+use Rattle.cms_model.proofs.Updates.{update_is_whole, relabel_is_whole}
+use Rattle.cms_model.proofs.Wipes.{wiped_is_none, wipe_is_whole, keeps_wiped, make_is_whole}
+use Rattle.cms_model.proofs.WritesPut.{update_is_put, apart_is_kept}
 use Rattle.cms_model.proofs.laws.update_laws.Goals as goal
 
 pub returns-clause-fronts : goal.returns-clause-fronts

@@ -1,4 +1,4 @@
-use Rattle.cms_model.proofs.Opening.{opens_where_held, open_keeps, state_is_minidisk, no_label, disk_is_looked_at}
+use Rattle.cms_model.proofs.OpenedVolumes.{opens_where_held, open_keeps, state_is_minidisk, no_label, disk_is_looked_at}
 use Rattle.cms_model.proofs.InOrder.{in_order}
 use Rattle.cms_model.proofs.laws.volume_laws.Goals as goal
 

@@ -1,5 +1,5 @@
 use Rattle.std.proofs.Common.{rules, ◌≡◌, ◌⊎◌, ◌<◌, ◌≤◌, ◌∙◌, inl, inr, length, refl, arith}
-use Rattle.cms_records.proofs.Feeding.{joined_told, front_told}
+use Rattle.cms_records.proofs.Feeds.{joined_told, front_told}
 use Rattle.cms_records.proofs.state.joined_size.Goals as goal
 use Rattle.cms_records.proofs.state.joined_size.Goals.{else-came-eq1-via-then-came-eq1+else-not-is_empty, else-came-eq1-via-else-came-eq1}
 

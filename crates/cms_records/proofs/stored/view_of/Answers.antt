@@ -1,4 +1,4 @@
-use Rattle.cms_records.proofs.Reading.{has_begun, has_room}
+use Rattle.cms_records.proofs.StoredRecords.{has_begun, has_room}
 use Rattle.cms_records.proofs.stored.view_of.Goals as goal
 
 pub new-requires : goal.new-requires

@@ -1,5 +1,5 @@
 use Rattle.std.proofs.Common.{slice_get}
-use Rattle.cms_edf.specs.Planning.{change_of}
+use Rattle.cms_edf.specs.ChangePlans.{change_of}
 use Rattle.cms_search.proofs.Came.{came_accessed, came_at_once, came_device}
 use Rattle.cms_search.proofs.Stepped.{has_device, if_some, may_change}
 use Rattle.cms_search.proofs.device_step.change_disk.Goals as goal

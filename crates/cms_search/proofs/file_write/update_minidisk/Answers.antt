@@ -1,4 +1,4 @@
-use Rattle.cms_disk.proofs.Adding.{appends_of}
+use Rattle.cms_disk.proofs.Added.{appends_of}
 use Rattle.cms_search.proofs.file_write.update_minidisk.Goals as goal
 
 pub returns-in-Put : goal.returns-in-Put

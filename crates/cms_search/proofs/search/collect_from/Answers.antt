@@ -1,7 +1,7 @@
 use Rattle.std.proofs.Common.{◌≡◌, ◌∙◌, sym, ap, subst, map}
 use Rattle.std.specs.Prelude.{Option, Some, slice_get}
 use Rattle.std.specs.Option.{option_map}
-use Rattle.cms_edf.specs.Asking.{infos_in}
+use Rattle.cms_edf.specs.FilesTold.{infos_in}
 use Rattle.cms_edf.specs.declared.held.FileInfo.{FileInfo}
 use Rattle.cms_search.specs.Searches.{fitting, is_found}
 use Rattle.cms_search.specs.Tables.{Seated, listed_held, told_of}

@@ -10,8 +10,8 @@ use Rattle.cms_tree.specs.declared.climb.Level.{Level}
 use Rattle.cms_tree.specs.Levels.{over_count}
 use Rattle.cms_tree.specs.Paths.{levels_of}
 use Rattle.cms_tree.specs.Resumes.{IsClear, tiers_above, ResumesOne, ResumesAll}
-use Rattle.cms_tree.proofs.Building.{fan_wide}
-use Rattle.cms_tree.proofs.Resuming.{IsAbove, length-levels_of, above_pointers, above_each, kept_within, kept_low, partly_within, resumes_nothing, resumes_more, tiers_next}
+use Rattle.cms_tree.proofs.BuiltTrees.{fan_wide}
+use Rattle.cms_tree.proofs.Resumes.{IsAbove, length-levels_of, above_pointers, above_each, kept_within, kept_low, partly_within, resumes_nothing, resumes_more, tiers_next}
 use Rattle.cms_tree.proofs.climb.+resume_levels.Goals as goal
 
 pub returns-in_default-clause-resumes : goal.returns-in_default-clause-resumes

@@ -11,8 +11,8 @@ use Rattle.cms_tree.specs.Levels.{over_count}
 use Rattle.cms_tree.specs.Kept.{kept_here, kept_above}
 use Rattle.cms_tree.specs.Tiers.{tier_above, IsTier, IsParent, Stand, Lifts, Rises}
 use Rattle.cms_tree.specs.Climbs.{AddsOwn, HasSize, HasEach, numbers_behind}
-use Rattle.cms_tree.proofs.Lifting.{div_mono, some_fan, tier_next}
-use Rattle.cms_tree.proofs.Stepping.{rises_nothing, rises_no_more, rises_on, rises_failed, units_kept}
+use Rattle.cms_tree.proofs.ClimbBlocks.{div_mono, some_fan, tier_next}
+use Rattle.cms_tree.proofs.ClimbSteps.{rises_nothing, rises_no_more, rises_on, rises_failed, units_kept}
 use Rattle.cms_model.proofs.Members.{In-left, In-right}
 use Rattle.cms_tree.proofs.Own.{own_none, own_some, own_twice, own_grown}
 use Rattle.cms_tree.proofs.climb.+rise.Goals as goal

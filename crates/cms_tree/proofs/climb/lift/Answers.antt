@@ -6,7 +6,7 @@ use Rattle.cms_journal.specs.Journal.{HasBlock}
 use Rattle.cms_journal.specs.Told.{plus}
 use Rattle.cms_fields.specs.Numbers.{up}
 use Rattle.cms_tree.specs.Tiers.{ends_group}
-use Rattle.cms_tree.proofs.Lifting.{Pointed, Stands, some_fan, stands_on, stands_whole, stands_parent, stands_next, stands_ends, may_add_front, group_within, div_mono}
+use Rattle.cms_tree.proofs.ClimbBlocks.{Pointed, Stands, some_fan, stands_on, stands_whole, stands_parent, stands_next, stands_ends, may_add_front, group_within, div_mono}
 use Rattle.cms_model.specs.Lists.{In}
 use Rattle.cms_tree.proofs.Own.{may_add_own, own_none, in_behind}
 use Rattle.cms_tree.proofs.Sums.{div_ceil_is}

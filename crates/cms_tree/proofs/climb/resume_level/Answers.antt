@@ -10,8 +10,8 @@ use Rattle.cms_tree.specs.declared.climb.Level.{Level}
 use Rattle.cms_tree.specs.Levels.{over_count}
 use Rattle.cms_tree.specs.Paths.{levels_of}
 use Rattle.cms_tree.specs.Resumes.{partly_above, ReadsFront, ResumesOne}
-use Rattle.cms_tree.proofs.Building.{fan_wide}
-use Rattle.cms_tree.proofs.Resuming.{length-levels_of, no_levels, over_first, partly_within, resumes_none, resumes_root, resumes_part, resumes_read}
+use Rattle.cms_tree.proofs.BuiltTrees.{fan_wide}
+use Rattle.cms_tree.proofs.Resumes.{length-levels_of, no_levels, over_first, partly_within, resumes_none, resumes_root, resumes_part, resumes_read}
 use Rattle.cms_tree.proofs.climb.resume_level.Goals as goal
 
 pub returns-then-not-partly_above-clause-resumes : goal.returns-then-not-partly_above-clause-resumes

@@ -1,4 +1,4 @@
-use Rattle.cms_tree.proofs.Building.{built_is_tree}
+use Rattle.cms_tree.proofs.BuiltTrees.{built_is_tree}
 use Rattle.cms_tree.proofs.node.build_laws.Goals as goal
 
 pub returns : goal.returns

@@ -1,7 +1,7 @@
 use Rattle.std.proofs.Common.{◌≡◌, ℕ, ◌+◌, ◌<◌, length, take, get_or, ◌∙◌, ap, arith}
 use Rattle.std.proofs.lemmas.List.{take_more, take_all, length-take-le}
 use Rattle.cms_tree.specs.Levels.{wide_mark}
-use Rattle.cms_tree.proofs.Filling.{none_filled, one_filled, all_filled, below_some}
+use Rattle.cms_tree.proofs.FilledBlocks.{none_filled, one_filled, all_filled, below_some}
 use Rattle.cms_tree.proofs.node.fill_node.Goals as goal
 use Rattle.cms_tree.proofs.node.fill_node.Goals.{then-psize-eq12, else-psize-eq12}
 

@@ -1,5 +1,5 @@
 use Rattle.std.proofs.Common.{length}
-use Rattle.cms_tree.proofs.Filling.{Filled}
+use Rattle.cms_tree.proofs.FilledBlocks.{Filled}
 use Rattle.cms_tree.proofs.node.fill_node.Given as goal
 
 abbrev pub invariant-loop-place : goal.invariant-loop-place

@@ -3,7 +3,7 @@ use Rattle.std.proofs.lemmas.List.{length-take, length-drop}
 use Rattle.cms_fields.specs.Numbers.{up}
 use Rattle.cms_tree.specs.Levels.{children_from}
 use Rattle.cms_tree.proofs.Sums.{div_ceil_is}
-use Rattle.cms_tree.proofs.Rising.{rises_first, rises_next, rises_found, rises_bounds, part_is}
+use Rattle.cms_tree.proofs.LevelsBuilt.{rises_first, rises_next, rises_found, rises_bounds, part_is}
 use Rattle.cms_tree.proofs.node.group_of.Goals as goal
 
 pub loop-place-init : goal.loop-place-init

@@ -1,4 +1,4 @@
-use Rattle.cms_tree.proofs.Rising.{Rises}
+use Rattle.cms_tree.proofs.LevelsBuilt.{Rises}
 use Rattle.cms_tree.proofs.node.group_of.Given as goal
 
 abbrev pub invariant-loop-place : goal.invariant-loop-place

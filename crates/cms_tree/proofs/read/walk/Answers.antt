@@ -16,8 +16,8 @@ use Rattle.cms_tree.specs.declared.read.Tier.{Tier}
 use Rattle.cms_tree.specs.Levels.{over_count}
 use Rattle.cms_tree.specs.Parts.{form_of, met_of, blocks_in}
 use Rattle.cms_tree.specs.Walks.{AreWithin, form_at, levels_at, nodes, nodes_at, tree_at}
+use Rattle.cms_tree.proofs.ClimbSteps.{over_all}
 use Rattle.cms_tree.proofs.Rest.{length-blocks_in, more_sum, walk_read}
-use Rattle.cms_tree.proofs.Stepping.{over_all}
 use Rattle.cms_tree.proofs.read.walk.Given as given
 use Rattle.cms_tree.proofs.read.walk.Goals as goal
 use Rattle.cms_tree.proofs.read.walk.Goals.{After-drop-tiers-2}

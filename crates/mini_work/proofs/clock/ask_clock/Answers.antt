@@ -3,9 +3,9 @@ use Rattle.std.proofs.lemmas.Int.{to_z-of_z}
 use Rattle.cms_journal.specs.declared.event.Event.TheVariants.{Now}
 use Rattle.cms_fields.specs.Moments.{stamp_of}
 use Rattle.cms_fields.specs.declared.time.Moment.{Moment}
-use Rattle.mini_work.specs.Changing.{IsAsked}
+use Rattle.mini_work.specs.Changes.{IsAsked}
 use Rattle.mini_work.specs.declared.fault.Fault.TheVariants.{Clock}
-use Rattle.mini_work.proofs.Leading.{asked_on, ended_same, grown_adds}
+use Rattle.mini_work.proofs.PartsJoined.{asked_on, ended_same, grown_adds}
 use Rattle.mini_work.specs.declared.fault.Fault.TheVariants as fault
 use Rattle.mini_work.proofs.Caused.{cause_done, edges_failed, edges_later}
 use Rattle.mini_work.proofs.clock.ask_clock.Goals as goal

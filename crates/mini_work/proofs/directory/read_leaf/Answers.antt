@@ -1,7 +1,7 @@
 use Rattle.mini_work.proofs.Caused.{cause_done, cause_fails, cause_then, later_same}
 use Rattle.std.proofs.Common.{◌∙◌, subst, sym}
 use Rattle.cms_journal.specs.Told.{Told}
-use Rattle.mini_work.specs.Opening.{MayUse}
+use Rattle.mini_work.specs.OpenedImages.{MayUse}
 use Rattle.mini_work.proofs.directory.read_leaf.Goals as goal
 
 pub read_any-requires : goal.read_any-requires

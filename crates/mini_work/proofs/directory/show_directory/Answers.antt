@@ -1,5 +1,5 @@
 use Rattle.mini_work.proofs.Caused.{end_done, end_fails, later_same, later_then}
-use Rattle.mini_work.proofs.Starting.{may_use_still}
+use Rattle.mini_work.proofs.LoneUnit.{may_use_still}
 use Rattle.mini_work.proofs.Typed.{grown_types, types_same, types_then}
 use Rattle.mini_work.proofs.directory.show_directory.Goals as goal
 

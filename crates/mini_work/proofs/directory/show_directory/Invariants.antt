@@ -1,6 +1,6 @@
 use Rattle.std.proofs.Common.{ℕ}
 use Rattle.mini_work.specs.Causes.{AreLater, on_world}
-use Rattle.mini_work.specs.Saying.{OnlyTypes}
+use Rattle.mini_work.specs.Output.{OnlyTypes}
 use Rattle.mini_work.proofs.directory.show_directory.Given as goal
 
 abbrev pub invariant-loop-leaf : goal.invariant-loop-leaf

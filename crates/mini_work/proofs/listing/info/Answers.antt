@@ -2,12 +2,12 @@ use Rattle.mini_work.proofs.Caused.{end_fails, end_refused, end_then, later_same
 use Rattle.std.proofs.Common.{Option, subst}
 use Rattle.std.specs.Prelude.{IfSome}
 use Rattle.std.proofs.lemmas.Result.{err_from_is_err_and}
-use Rattle.cms_held.specs.Opening.{Holding}
-use Rattle.mini_work.specs.Checking.{Holds}
+use Rattle.cms_held.specs.HeldVolumes.{Held}
+use Rattle.mini_work.specs.Checks.{Holds}
 use Rattle.mini_work.specs.Listing.{facts_text}
-use Rattle.mini_work.specs.Opening.{IsNew}
+use Rattle.mini_work.specs.OpenedImages.{IsNew}
 use Rattle.mini_work.proofs.Checked.{showing_err, showing_on, showing_shut}
-use Rattle.mini_work.proofs.Starting.{unwritten_types}
+use Rattle.mini_work.proofs.LoneUnit.{unwritten_types}
 use Rattle.mini_work.proofs.listing.info.Goals as goal
 
 pub returns-in_err-held-clause-goes : goal.returns-in_err-held-clause-goes
@@ -23,7 +23,7 @@ pub returns-in-Some-clause-goes : goal.returns-in-Some-clause-goes
 returns-in-Some-clause-goes g c = λ is.
     let told = g.W.World.told in
     let name = c.args.image.now.name in
-    let holds = subst (λ (o : Option Holding). IfSome o (λ h. IsNew (told c.args.world.now) → Holds name (told c.open_held.new.world) h.volume))
+    let holds = subst (λ (o : Option Held). IfSome o (λ h. IsNew (told c.args.world.now) → Holds name (told c.open_held.new.world) h.volume))
     c.in-Some.is c.in_ok-held.ensures.holds in
     showing_on name facts_text (told c.open_held.new.world) (told c.say_facts.new.world) c.in-Some.held.volume c.say_facts.result (holds is)
     c.say_facts.ensures.shows (unwritten_types _ _ c.say_facts.ensures.typed (c.in_ok-held.ensures.unwritten is))

@@ -4,8 +4,8 @@ use Rattle.std.specs.Prelude.{IfSome}
 use Rattle.std.proofs.lemmas.Result.{err_from_is_err_and}
 use Rattle.cms_journal.specs.declared.event.Access.TheVariants.{ReadOnly}
 use Rattle.cms_disk.specs.Disks.{Accessed}
-use Rattle.mini_work.specs.Opening.{IsNew, Opens}
-use Rattle.mini_work.specs.Working.{IsListing}
+use Rattle.mini_work.specs.Commands.{IsListing}
+use Rattle.mini_work.specs.OpenedImages.{IsNew, Opens}
 use Rattle.mini_work.proofs.Worked.{shut_err, shut_none, worked_open}
 use Rattle.mini_work.proofs.listing.list.Goals as goal
 

@@ -2,14 +2,14 @@ use Rattle.mini_work.proofs.Caused.{end_both, end_done, end_fails, end_lacks, la
 use Rattle.std.proofs.Common.{◌∙◌, ℕ, ◌≤◌, arith, length, Bool, List, Ok, subst, take}
 use Rattle.std.proofs.lemmas.List.{length-map}
 use Rattle.std.proofs.lemmas.Result.{err_from_is_err_and}
-use Rattle.cms_edf.specs.Asking.{info_of, infos_in}
+use Rattle.cms_edf.specs.FilesTold.{info_of, infos_in}
 use Rattle.cms_edf.specs.declared.held.FileInfo.{FileInfo}
 use Rattle.cms_machine.specs.Acts.{typed_line}
-use Rattle.mini_work.specs.Changing.{IsTold}
-use Rattle.mini_work.specs.Going.{Continues, Goes}
+use Rattle.mini_work.specs.Changes.{IsTold}
+use Rattle.mini_work.specs.CommandActs.{Continues, Goes}
 use Rattle.mini_work.specs.Listing.{file_line, is_listed}
-use Rattle.mini_work.proofs.Leading.{cut_any, ended_on, goes_cut, goes_none}
 use Rattle.mini_work.proofs.Listed.{goes_done, goes_next}
+use Rattle.mini_work.proofs.PartsJoined.{cut_any, ended_on, goes_cut, goes_none}
 use Rattle.mini_work.proofs.listing.list_files.Goals as goal
 
 pub loop-nth-init : goal.loop-nth-init

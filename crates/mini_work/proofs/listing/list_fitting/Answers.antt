@@ -3,15 +3,15 @@ use Rattle.mini_work.proofs.Caused.{end_both, end_fails, end_lacks, later_same}
 use Rattle.std.proofs.Common.{◌∙◌, List, ap}
 use Rattle.std.proofs.lemmas.Result.{err_from_is_err_and}
 use Rattle.cms_names.specs.declared.name.Name.{Name}
-use Rattle.mini_work.specs.Choosing.{idle_status}
-use Rattle.cms_edf.specs.Asking.{infos_in}
+use Rattle.mini_work.specs.ChosenFiles.{idle_status}
+use Rattle.cms_edf.specs.FilesTold.{infos_in}
 use Rattle.cms_edf.specs.declared.held.FileInfo.{FileInfo}
 use Rattle.cms_machine.specs.Acts.{typed_line}
-use Rattle.mini_work.specs.Changing.{IsTold}
-use Rattle.mini_work.specs.Going.{Goes}
+use Rattle.mini_work.specs.Changes.{IsTold}
+use Rattle.mini_work.specs.CommandActs.{Goes}
+use Rattle.mini_work.specs.Commands.{IsListing}
 use Rattle.mini_work.specs.Listing.{file_line, is_listed}
-use Rattle.mini_work.specs.Working.{IsListing}
-use Rattle.mini_work.proofs.Leading.{cut_any, ended_on, goes_cut}
+use Rattle.mini_work.proofs.PartsJoined.{cut_any, ended_on, goes_cut}
 use Rattle.mini_work.proofs.Worked.{listing_on}
 use Rattle.mini_work.proofs.listing.list_fitting.Goals as goal
 

@@ -2,7 +2,7 @@ use Rattle.std.proofs.Common.{◌∙◌, ◌+◌, ◌%◌, List, [], ◌∷◌, 
 use Rattle.cms_search.specs.Texts.{left_in, right_in}
 use Rattle.cms_text.specs.Numbers.{decimal_of}
 use Rattle.mini_work.specs.Listing.{format_text, stamp_text}
-use Rattle.mini_work.specs.Saying.{name_text}
+use Rattle.mini_work.specs.Output.{name_text}
 use Rattle.mini_work.proofs.Columns.{columns_are}
 use Rattle.mini_work.proofs.listing.long_line.Goals as goal
 

@@ -1,6 +1,6 @@
 use Rattle.mini_work.specs.Causes.{AreLater, on_world}
 use Rattle.std.proofs.Common.{drop, map, ℕ}
-use Rattle.cms_line.specs.Typing.{TypedTo}
+use Rattle.cms_line.specs.Typed.{TypedTo}
 use Rattle.mini_work.specs.Listing.{typed_lines}
 use Rattle.mini_work.proofs.listing.say_facts.Given as goal
 

@@ -1,7 +1,7 @@
 use Rattle.std.proofs.Common.{◌≡◌, ◌≤◌, ◌-◌, ℕ, List, length}
 use Rattle.cms_edf.specs.OpeningSteps.{OfImage}
 use Rattle.cms_disk.specs.Cursors.{HasLeft, SameFile}
-use Rattle.cms_disk.proofs.Moving.{BegunAt}
+use Rattle.cms_disk.proofs.ReadMoves.{BegunAt}
 use Rattle.cms_disk.proofs.cursor.Cursor.next.Given as goal
 
 abbrev pub invariant-loop-self : goal.invariant-loop-self

@@ -1,6 +1,6 @@
 use Rattle.std.proofs.Common.{rules, ◌≤◌, ◌*◌, sym, subst, arith, mul-le-mul_right}
-use Rattle.cms_disk.specs.Cursors.{Reading, HasLeft, IsUnread}
-use Rattle.cms_disk.proofs.Skipping.{skipped}
+use Rattle.cms_disk.specs.Cursors.{Cursor, HasLeft, IsUnread}
+use Rattle.cms_disk.proofs.Skipped.{skipped}
 use Rattle.cms_disk.specs.contracts.cursor.Cursor.{the_view}
 use Rattle.cms_disk.proofs.cursor.Cursor.skip.Goals as goal
 
@@ -20,4 +20,4 @@ returns-clause-records c = λ image records left.
     let view = c.self.view_is in
     let sound = c.self.invariant.reading in
     skipped image w c.args.count _ _ _ records (subst IsUnread (sym view) c.requires.unread) sound.some sound.held.block (search rules) (search rules) (search rules) (search rules)
-    (subst (λ (r : Reading). HasLeft image r records) (sym view) left)
+    (subst (λ (r : Cursor). HasLeft image r records) (sym view) left)

@@ -8,24 +8,24 @@ use Rattle.cms_model.specs.Changes.{Add, changed}
 use Rattle.cms_model.specs.LawsUpdates.{now}
 use Rattle.cms_world.specs.Seen.{seen}
 use Rattle.cms_held.proofs.Fronts.{if_err}
-use Rattle.cms_tree.proofs.Stepping.{units_kept}
-use Rattle.cms_held.specs.Opening.{HeldVolume}
+use Rattle.cms_tree.proofs.ClimbSteps.{units_kept}
+use Rattle.cms_held.specs.HeldVolumes.{HeldVolume}
 use Rattle.cms_edf.proofs.Committed.{can_write}
 use Rattle.cms_edf.proofs.Planned.{named_at}
 use Rattle.cms_edf.specs.FileDrafts.{IsSomeDraft, LeadsToFile}
 use Rattle.cms_edf.specs.declared.draft.Draft.{Draft}
 use Rattle.cms_draft.specs.declared.shape.DraftShape.{DraftShape}
 use Rattle.cms_disk.specs.Additions.{IsAddFault}
-use Rattle.cms_disk.specs.Changing.{Appends, ChangesDisk, IsDevices, IsPutIn}
+use Rattle.cms_disk.specs.Changes.{Appends, ChangesDisk, IsDevices, IsPutIn}
 use Rattle.cms_disk.specs.Disks.{Accessed}
 use Rattle.cms_disk.specs.declared.fault.DiskFault.{DiskFault}
 use Rattle.cms_disk.specs.declared.fault.DiskFault.TheVariants.{ReadOnly}
-use Rattle.cms_disk.proofs.Adding.{add_fault, appends_of, changed_both, changed_put, changed_read, changed_then, device_fault, fault_locked, more_refused}
+use Rattle.cms_disk.proofs.Added.{add_fault, appends_of, changed_both, changed_put, changed_read, changed_then, device_fault, fault_locked, more_refused}
 use Rattle.cms_disk.proofs.DraftSteps.{none_aside}
-use Rattle.cms_disk.proofs.Extending.{behind_at, last_behind, may_extend, shape_told, shaped_at}
 use Rattle.cms_disk.proofs.FilePut.{added_none, alters_same, given_up, more_in, not_read_only, on_ok}
-use Rattle.cms_disk.proofs.Filling.{same_more, same_some}
-use Rattle.cms_disk.proofs.Finding.{none_found}
+use Rattle.cms_disk.proofs.FilesFound.{none_found}
+use Rattle.cms_disk.proofs.MoreDrafts.{behind_at, last_behind, may_extend, shape_told, shaped_at}
+use Rattle.cms_disk.proofs.RecordsPut.{same_more, same_some}
 use Rattle.cms_disk.proofs.TooMany.{limited, no_room}
 use Rattle.cms_disk.proofs.minidisk.Minidisk.append.Goals as goal
 

@@ -1,14 +1,14 @@
 use Rattle.std.proofs.Common.{rules, ◌≡◌, Some, sym, ◌∙◌, ap, subst}
 use Rattle.std.proofs.lemmas.Result.{err_from_is_err_and}
+use Rattle.cms_held.specs.HeldVolumes.{HeldVolume, Held}
 use Rattle.cms_held.specs.Kept.{Keeps}
-use Rattle.cms_held.specs.Opening.{HeldVolume, Holding}
 use Rattle.cms_journal.specs.Journal.{Journal, HasBlocks, IsWritable}
 use Rattle.cms_journal.specs.Told.{plus}
 use Rattle.cms_model.specs.Minidisks as minidisks
-use Rattle.cms_edf.specs.Finishing.{IsStopped, LeadsTo, step_events}
-use Rattle.cms_edf.specs.Planning.{IsFullFor, IsPlanFor, change_of}
+use Rattle.cms_edf.specs.ChangePlans.{IsFullFor, IsPlanFor, change_of}
+use Rattle.cms_edf.specs.Updates.{IsStopped, LeadsTo, step_events}
 use Rattle.cms_disk.specs.Disks.{Accessed, IsMinidisk}
-use Rattle.cms_disk.proofs.Altering.{Setting, altered, alters_by, carry_fault, grown_cut, grown_done, held_then, leads_same, not_planned, on_same, plan_fault}
+use Rattle.cms_disk.proofs.ChangeSteps.{Setting, altered, alters_by, carry_fault, grown_cut, grown_done, held_then, leads_same, not_planned, on_same, plan_fault}
 use Rattle.cms_disk.proofs.minidisk.Minidisk.change.Given as given
 use Rattle.cms_disk.proofs.minidisk.Minidisk.change.Goals as goal
 use Rattle.cms_disk.proofs.minidisk.Minidisk.change.Goals.{After-carry_out, In_ok-carry_out}
@@ -87,7 +87,7 @@ returns-in_err-carry_out-clause-alters g c = λ j m told is.
     let same = volume_is g at in
     rw (p.1, p.2) (alters_by j old new c.args.self.now (new_view g at) m (change_of c.args.change.now) c.args.stamp.now c.in_ok-plan.plan (setting g at j m told is) why
     (subst (λ (v : HeldVolume). IsStopped old new v c.in_ok-plan.plan why) same c.in_err-carry_out.ensures.cut_off)
-    (ap (λ (h : Holding). h.volume) c.in_err-carry_out.ensures.kept ∙ same))
+    (ap (λ (h : Held). h.volume) c.in_err-carry_out.ensures.kept ∙ same))
 
 pub returns-in_err-carry_out-clause-fault : goal.returns-in_err-carry_out-clause-fault
 returns-in_err-carry_out-clause-fault g c =
@@ -101,7 +101,7 @@ returns-in_err-carry_out-clause-changes g c =
     let at = (goal.at.returns-in_err-carry_out-clause-changes g c).After-carry_out in
     let counts = c.in_err-carry_out.ensures.counts in
     let d = c.args.self.now in
-    let kept = ap (λ (h : Holding). h.volume) c.in_err-carry_out.ensures.kept ∙ volume_is g at in
+    let kept = ap (λ (h : Held). h.volume) c.in_err-carry_out.ensures.kept ∙ volume_is g at in
     rw (p.1, p.2) (record {
       units = record {
         grown = grown_cut (shows.told c.args.world.now) (shows.told c.carry_out.new.world) c.plan.new.held.volume c.in_ok-plan.plan c.in_err-carry_out.field-0.0 c.in_err-carry_out.ensures.cut_off;

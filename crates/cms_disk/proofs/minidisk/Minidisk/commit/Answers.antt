@@ -1,7 +1,7 @@
 use Rattle.std.proofs.Common.{◌≡◌, Ok, Err, refl, sym, ◌∙◌, ap, subst, rules}
 use Rattle.std.proofs.lemmas.Result.{err_from_is_err_and}
 use Rattle.cms_journal.specs.Journal.{HasBlocks, IsWritable}
-use Rattle.cms_held.specs.Opening.{HeldVolume, Holding}
+use Rattle.cms_held.specs.HeldVolumes.{HeldVolume, Held}
 use Rattle.cms_disk.specs.Disks.{Accessed}
 use Rattle.cms_disk.proofs.DraftSteps.{Ending, commit_fault, ends_so, on_volume, stays_on}
 use Rattle.cms_disk.proofs.minidisk.Minidisk.commit.Given as given
@@ -42,7 +42,7 @@ returns-in_err-commit-clause-alters g c =
     let x : Ending start (g.W.World.told c.args.world.now) d m c.args.draft change stamp records = record { goes = goes; sound = c.commit.ensures.sound } in
     let failed = c.in_err-commit.ensures in
     rw (p.1, p.2) (ends_so start (g.W.World.told c.args.world.now) (g.W.World.told c.commit.new.world) d e m c.args.draft change stamp records (Err c.in_err-commit.field-0.0) x
-    (record { events = failed.events; puts = failed.puts; adds = failed.adds; leads = tt; kept = ap (λ (h : Holding). h.volume) failed.kept })))
+    (record { events = failed.events; puts = failed.puts; adds = failed.adds; leads = tt; kept = ap (λ (h : Held). h.volume) failed.kept })))
 
 pub returns-in_err-commit-clause-fault : goal.returns-in_err-commit-clause-fault
 returns-in_err-commit-clause-fault g c =

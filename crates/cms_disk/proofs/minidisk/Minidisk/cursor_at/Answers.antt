@@ -4,10 +4,10 @@ use Rattle.cms_fields.specs.Limits.{longest_record}
 use Rattle.cms_model.specs.Volumes.{Disk}
 use Rattle.cms_names.specs.declared.name.Name.{Name}
 use Rattle.cms_held.specs.Kept.{Keeps}
-use Rattle.cms_disk.specs.Cursors.{IsFirst, Reading}
+use Rattle.cms_disk.specs.Cursors.{IsFirst, Cursor}
 use Rattle.cms_disk.specs.Disks.{Accessed, FirstIn, OpensIn, place_of}
+use Rattle.cms_disk.proofs.FilesFound.{CanRead, HasFile, can_read, first_is, has_file, ok_maps, opens_in}
 use Rattle.cms_disk.proofs.FilesTold.{first_short}
-use Rattle.cms_disk.proofs.Finding.{CanRead, HasFile, can_read, first_is, has_file, ok_maps, opens_in}
 use Rattle.cms_disk.proofs.minidisk.Minidisk.cursor_at.Goals as goal
 use Rattle.cms_disk.proofs.minidisk.Minidisk.cursor_at.Goals.{After-leaves-leaves}
 
@@ -53,7 +53,7 @@ returns-clause-records c =
     let d = c.args.self.now in
     let place = c.args.place in
     let sound = keeps (goal.at.returns-clause-records c).After-leaves-leaves in
-    ok_maps (FirstIn d.volume place) (λ (x : Reading). (name : Name) → place_of name d.volume ≡ Some place → OpensIn d name x) c.new.result
+    ok_maps (FirstIn d.volume place) (λ (x : Cursor). (name : Name) → place_of name d.volume ≡ Some place → OpensIn d name x) c.new.result
     (λ x first name at. opens_in d name x sound (record { place = place; place_is = at; file = first.0; file_is = first.1; first = first.2 }))
     (returns-clause-first c)
 
@@ -62,4 +62,4 @@ returns-clause-short c =
     let d = c.args.self.now in
     let place = c.args.place in
     let sound = keeps (goal.at.returns-clause-short c).After-leaves-leaves in
-    ok_maps (FirstIn d.volume place) (λ (x : Reading). x.begun.longest ≤ longest_record) c.new.result (λ x first. first_short d.volume place x sound first) (returns-clause-first c)
+    ok_maps (FirstIn d.volume place) (λ (x : Cursor). x.begun.longest ≤ longest_record) c.new.result (λ x first. first_short d.volume place x sound first) (returns-clause-first c)

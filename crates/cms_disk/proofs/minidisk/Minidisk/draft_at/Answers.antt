@@ -1,9 +1,9 @@
 use Rattle.std.proofs.Common.{◌≡◌, ap, subst, sym}
 use Rattle.std.proofs.lemmas.Result.{err_from_is_err_and}
-use Rattle.cms_held.specs.Opening.{HeldVolume}
+use Rattle.cms_held.specs.HeldVolumes.{HeldVolume}
 use Rattle.cms_edf.specs.declared.draft.Draft.{Draft}
 use Rattle.cms_disk.specs.Disks.{Accessed, place_of}
-use Rattle.cms_disk.proofs.Answering.{draft_fault, draft_made, draft_refused}
+use Rattle.cms_disk.proofs.DraftAnswered.{draft_fault, draft_made, draft_refused}
 use Rattle.cms_disk.proofs.DraftSteps.{begins_put}
 use Rattle.cms_disk.proofs.FilePut.{not_both}
 use Rattle.cms_disk.proofs.minidisk.Minidisk.draft_at.Goals as goal

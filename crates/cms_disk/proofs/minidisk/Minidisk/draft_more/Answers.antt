@@ -2,13 +2,13 @@ use Rattle.std.proofs.Common.{◌≡◌, ◌∙◌, ℕ, length, Option, Some, r
 use Rattle.std.specs.Prelude.{IsSome}
 use Rattle.std.proofs.lemmas.Result.{err_from_is_err_and}
 use Rattle.cms_journal.specs.Journal.{HasBlocks}
-use Rattle.cms_held.specs.Opening.{HeldVolume}
-use Rattle.cms_held.specs.Putting.{limit_put}
+use Rattle.cms_held.specs.HeldVolumes.{HeldVolume}
+use Rattle.cms_held.specs.Puts.{limit_put}
 use Rattle.cms_edf.specs.declared.draft.Draft.{Draft}
 use Rattle.cms_disk.specs.Additions.{MayExtend}
 use Rattle.cms_disk.specs.Disks.{Accessed, place_of}
-use Rattle.cms_disk.proofs.AddAnswering.{more_fault, planned_so, refused_so, room_for}
-use Rattle.cms_disk.proofs.Extending.{begins_more, behind_file, can_grow, file_there, told_of}
+use Rattle.cms_disk.proofs.AddAnswered.{more_fault, planned_so, refused_so, room_for}
+use Rattle.cms_disk.proofs.MoreDrafts.{begins_more, behind_file, can_grow, file_there, told_of}
 use Rattle.cms_disk.proofs.minidisk.Minidisk.draft_more.Goals as goal
 
 -- it is there

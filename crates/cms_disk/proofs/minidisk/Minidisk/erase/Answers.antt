@@ -1,5 +1,5 @@
 use Rattle.std.proofs.Common.{refl}
-use Rattle.cms_disk.proofs.Altering.{is_missing}
+use Rattle.cms_disk.proofs.ChangeSteps.{is_missing}
 use Rattle.cms_disk.proofs.minidisk.Minidisk.erase.Goals as goal
 
 pub returns-then-not-has-clause-alters : goal.returns-then-not-has-clause-alters

@@ -6,10 +6,10 @@ use Rattle.cms_model.specs.declared.file.FileData.{FileData}
 use Rattle.cms_held.proofs.Fronts.{if_err}
 use Rattle.cms_names.specs.declared.name.Name.{Name}
 use Rattle.cms_disk.specs.Disks.{place_of}
-use Rattle.cms_disk.specs.Getting.{IsLike}
+use Rattle.cms_disk.specs.Gets.{IsLike}
 use Rattle.cms_disk.specs.declared.fault.DiskFault.{DiskFault}
 use Rattle.cms_disk.specs.declared.fault.DiskFault.TheVariants.{Altered, Device, Memory, NotFound}
-use Rattle.cms_disk.proofs.Finding.{ok_maps}
+use Rattle.cms_disk.proofs.FilesFound.{ok_maps}
 use Rattle.cms_disk.proofs.Gotten.{gets_none, is_there}
 use Rattle.cms_disk.proofs.minidisk.Minidisk.get.Goals as goal
 

@@ -3,14 +3,14 @@ use Rattle.std.proofs.Common.{◌≡◌, Some, Err, ap, ◌∙◌, arith}
 use Rattle.std.proofs.lemmas.Result.{err_from_is_err_and}
 use Rattle.cms_journal.specs.Journal.{Journal}
 use Rattle.cms_model.specs.Minidisks.{State}
-use Rattle.cms_held.specs.Making.{made_writes}
-use Rattle.cms_held.specs.Opening.{HeldVolume}
+use Rattle.cms_held.specs.EmptyVolumes.{made_writes}
+use Rattle.cms_held.specs.HeldVolumes.{HeldVolume}
 use Rattle.cms_edf.specs.Doubts.{IsCutOff}
 use Rattle.cms_edf.specs.declared.doubt.Doubt.{Doubt}
 use Rattle.cms_edf.proofs.Listings.{fewer_on}
-use Rattle.cms_disk.specs.Changing.{fault_of}
-use Rattle.cms_disk.specs.Making.{Formats, IsReady}
-use Rattle.cms_disk.proofs.Formatting.{IsPlanned, failed_grown, failed_quiet, grown_cut_wipe, made, made_grown, made_quiet, make_failed, make_fault, not_memory, wipe_doubted}
+use Rattle.cms_disk.specs.Changes.{fault_of}
+use Rattle.cms_disk.specs.EmptyMinidisks.{Formats, IsReady}
+use Rattle.cms_disk.proofs.MakeSteps.{IsPlanned, failed_grown, failed_quiet, grown_cut_wipe, made, made_grown, made_quiet, make_failed, make_fault, not_memory, wipe_doubted}
 use Rattle.cms_disk.proofs.StepPieces.{grown_some}
 use Rattle.cms_disk.proofs.minidisk.Minidisk.make.Given as given
 use Rattle.cms_disk.proofs.minidisk.Minidisk.make.Goals as goal

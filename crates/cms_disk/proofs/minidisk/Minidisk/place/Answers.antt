@@ -1,6 +1,6 @@
 use Rattle.std.proofs.Common.{sym, ◌∙◌, ap}
 use Rattle.cms_disk.specs.Disks.{Accessed, place_of}
-use Rattle.cms_disk.proofs.Finding.{none_found}
+use Rattle.cms_disk.proofs.FilesFound.{none_found}
 use Rattle.cms_disk.proofs.minidisk.Minidisk.place.Goals as goal
 
 pub returns-in-None-clause-absent : goal.returns-in-None-clause-absent

@@ -5,23 +5,23 @@ use Rattle.cms_journal.specs.Journal.{HasBlocks, IsWritable}
 use Rattle.cms_world.specs.Seen.{seen}
 use Rattle.cms_journal.specs.declared.event.Attached.{Attached}
 use Rattle.cms_model.specs.Changes.{Put}
-use Rattle.cms_tree.proofs.Stepping.{units_kept}
+use Rattle.cms_tree.proofs.ClimbSteps.{units_kept}
 use Rattle.cms_held.proofs.Fronts.{if_err}
-use Rattle.cms_held.specs.Opening.{HeldVolume}
-use Rattle.cms_held.specs.Putting.{count_put, limit_put}
+use Rattle.cms_held.specs.HeldVolumes.{HeldVolume}
+use Rattle.cms_held.specs.Puts.{count_put, limit_put}
 use Rattle.cms_edf.specs.FileDrafts.{IsSomeDraft, LeadsToFile}
 use Rattle.cms_edf.proofs.Committed.{can_write}
 use Rattle.cms_journal.specs.Told.{Told}
-use Rattle.cms_draft.specs.Drafting.{HaveShape}
+use Rattle.cms_draft.specs.FileWriters.{HaveShape}
 use Rattle.cms_edf.specs.declared.draft.Draft.{Draft}
 use Rattle.cms_draft.specs.declared.shape.DraftShape.{DraftShape}
-use Rattle.cms_disk.specs.Changing.{Alters, IsDevices, IsPutIn}
+use Rattle.cms_disk.specs.Changes.{Alters, IsDevices, IsPutIn}
 use Rattle.cms_disk.specs.Disks.{Accessed}
 use Rattle.cms_disk.specs.Drafts.{GoesOn, HaveCounts, IsDraftFault, IsPutFault, file_with, shape_of}
 use Rattle.cms_disk.specs.declared.fault.DiskFault.{DiskFault}
 use Rattle.cms_disk.specs.declared.fault.DiskFault.TheVariants.{Limit, ReadOnly}
 use Rattle.cms_disk.proofs.FilePut.{alters_same, are_last, changed_behind, device_is_fault, draft_is_fault, file_none, given_up, has_counts, has_shape, long_so, not_made, not_read_only, on_ok, put_in, refused_so}
-use Rattle.cms_disk.proofs.Filling.{same_draft, same_some}
+use Rattle.cms_disk.proofs.RecordsPut.{same_draft, same_some}
 use Rattle.cms_disk.proofs.minidisk.Minidisk.put.Goals as goal
 
 pub returns-in_err-draft-clause-alters : goal.returns-in_err-draft-clause-alters

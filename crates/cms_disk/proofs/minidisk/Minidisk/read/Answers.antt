@@ -1,6 +1,6 @@
 use Rattle.std.proofs.Common.{refl}
 use Rattle.cms_disk.specs.Disks.{disk_on}
-use Rattle.cms_disk.proofs.Quieting.{opened_leaves, refused_leaves}
+use Rattle.cms_disk.proofs.QuietUnits.{opened_leaves, refused_leaves}
 use Rattle.cms_disk.specs.contracts.minidisk.Minidisk.{the_view}
 use Rattle.cms_disk.proofs.minidisk.Minidisk.read.Goals as goal
 

@@ -1,5 +1,5 @@
 use Rattle.std.proofs.Common.{refl, rules}
-use Rattle.cms_disk.proofs.Altering.{is_missing, is_there}
+use Rattle.cms_disk.proofs.ChangeSteps.{is_missing, is_there}
 use Rattle.cms_disk.proofs.minidisk.Minidisk.rename.Goals as goal
 
 pub returns-then-not-has-clause-alters : goal.returns-then-not-has-clause-alters

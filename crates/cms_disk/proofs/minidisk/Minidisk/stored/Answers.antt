@@ -2,10 +2,10 @@
 use Rattle.std.proofs.Common.{◌≡◌, Some, subst, slice_get}
 use Rattle.std.specs.Prelude.{IfSome}
 use Rattle.cms_held.specs.Kept.{IsSized}
-use Rattle.cms_edf.specs.Asking.{infos_in, stored_in}
+use Rattle.cms_edf.specs.FilesTold.{infos_in, stored_in}
 use Rattle.cms_disk.specs.Disks.{Accessed}
+use Rattle.cms_disk.proofs.FilesFound.{stored_told}
 use Rattle.cms_disk.proofs.FilesTold.{told_sized}
-use Rattle.cms_disk.proofs.Finding.{stored_told}
 use Rattle.cms_disk.proofs.minidisk.Minidisk.stored.Goals as goal
 
 pub returns-clause-records : goal.returns-clause-records

@@ -1,5 +1,5 @@
 use Rattle.std.proofs.Common.{◌≡◌, ◌-◌, ℕ, drop, refl, sym, ◌∙◌, ap, arith}
-use Rattle.cms_draft.specs.BlockWriting.{came}
+use Rattle.cms_draft.specs.BlockWriters.{came}
 use Rattle.cms_draft.proofs.BlockWritten.{begun_more, appended_on, appended_stops, own_kept, own_on, same_none, mark_here, wrote_none}
 use Rattle.cms_draft.proofs.block_writer.BlockWriter.append.Goals as goal
 

@@ -1,7 +1,7 @@
 use Rattle.std.proofs.Common.{◌≡◌, ◌<◌, ◌≤◌, Ok, length}
 use Rattle.std.specs.Prelude.{⊤}
 use Rattle.std.specs.Option.{ForSome}
-use Rattle.cms_draft.specs.BlockWriting.{AddsOwnBlocks, CanWrite, IsWriter, TakesBytes}
+use Rattle.cms_draft.specs.BlockWriters.{AddsOwnBlocks, CanWrite, IsWriter, TakesBytes}
 use Rattle.cms_draft.proofs.BlockWritten.{Begun}
 use Rattle.cms_draft.proofs.block_writer.BlockWriter.append.Given as goal
 

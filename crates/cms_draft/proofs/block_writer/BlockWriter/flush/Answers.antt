@@ -4,11 +4,11 @@ use Rattle.std.proofs.lemmas.List.{length-replicate}
 use Rattle.cms_model.specs.Sizes.{levels}
 use Rattle.cms_tree.specs.declared.types.Mark.{Mark}
 use Rattle.cms_tree.specs.Kept.{Kept}
-use Rattle.cms_tree.specs.Climbs.{AddsOn, AddsOwn, Climbing, ClimbsOn, IsNext, numbers_behind}
+use Rattle.cms_tree.specs.Climbs.{AddsOn, AddsOwn, Climb, ClimbsOn, IsNext, numbers_behind}
 use Rattle.cms_tree.proofs.Own.{own_grown}
 use Rattle.cms_held.specs.Drafts.{nowhere}
 use Rattle.cms_draft.specs.declared.block_writer.BlockWriter.{BlockWriter}
-use Rattle.cms_draft.specs.BlockWriting.{IsSame, its_blocks}
+use Rattle.cms_draft.specs.BlockWriters.{IsSame, its_blocks}
 use Rattle.cms_draft.proofs.BlockWritten.{flush_fails, flushed, own_failed, own_flushed, writer_flushed, ready_kept}
 use Rattle.cms_draft.proofs.block_writer.BlockWriter.flush.Goals as goal
 
@@ -47,7 +47,7 @@ returns-clause-writes g c = λ es bytes marks s done.
     let next = c.add.new.self in
     flushed old mid new w (record w { climb = next }) leaf c.deref.result.now pointers es bytes marks c.add.result c.requires.is s done
     (ap (λ (l : List ℕ). get_or l w.whole 0) c.leaves.ensures) c.deref.ensures.value (c.pointers.ensures ∙ ap (λ (x : BlockWriter). x.tree.pointers) same) c.in-Ok.ensures.wrote
-    (ap (λ (x : Climbing). x.added) c.add.ensures.added ∙ ap (λ (x : BlockWriter). x.climb.added + 1) same)
+    (ap (λ (x : Climb). x.added) c.add.ensures.added ∙ ap (λ (x : BlockWriter). x.climb.added + 1) same)
     (subst (λ (x : BlockWriter). (kept : ℕ) (es : List Kept) (leaves : List ℕ) (marks : List Mark) → ClimbsOn x.climb kept es leaves marks pointers → IsNext x.climb leaves marks leaf w.mark
     → AddsOn mid new x.unit x.climb next kept es leaves marks pointers c.add.result) same c.add.ensures.adds_on)
 

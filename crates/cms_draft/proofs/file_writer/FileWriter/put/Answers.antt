@@ -1,7 +1,7 @@
 use Rattle.std.proofs.Common.{Ok, Err, subst}
-use Rattle.cms_draft.specs.Drafting.{Drafting}
+use Rattle.cms_draft.specs.FileWriters.{FileWriter}
 use Rattle.cms_draft.specs.declared.block_writer.BlockWriter.{BlockWriter}
-use Rattle.cms_draft.specs.BlockWriting.{AddsOwnBlocks, IsSame}
+use Rattle.cms_draft.specs.BlockWriters.{AddsOwnBlocks, IsSame}
 use Rattle.cms_draft.proofs.BlockWritten.{own_on, same_twice}
 use Rattle.cms_draft.proofs.FilePuts.{Sized, Putting, begun, same_begun, sized, put_fixed, put_varying, put_size_fails}
 use Rattle.cms_draft.proofs.file_writer.FileWriter.put.Goals as goal
@@ -9,7 +9,7 @@ use Rattle.cms_draft.proofs.file_writer.FileWriter.put.Goals as goal
 pub returns-in-F-clause-puts : goal.returns-in-F-clause-puts
 returns-in-F-clause-puts g c =
     let s = c.self.inside in
-    let d : Drafting = record { shape = s.shape; put = s.put; writer = s.writer } in
+    let d : FileWriter = record { shape = s.shape; put = s.put; writer = s.writer } in
     let e = c.append.ensures in
     rw (← c.self.view_is) (λ front records more drafts.
     put_fixed (g.W.World.told c.args.world.now)
@@ -18,7 +18,7 @@ returns-in-F-clause-puts g c =
 pub returns-in-Ok-clause-puts : goal.returns-in-Ok-clause-puts
 returns-in-Ok-clause-puts g c =
     let s = c.self.inside in
-    let d : Drafting = record { shape = s.shape; put = s.put; writer = s.writer } in
+    let d : FileWriter = record { shape = s.shape; put = s.put; writer = s.writer } in
     let old = g.W.World.told c.args.world.now in
     let mid = g.W.World.told c.append-in-V.new.world in
     let size = c.write_u16.new.buf in
@@ -45,7 +45,7 @@ returns-in-Ok-clause-own g c =
 pub returns-in-Err-clause-puts : goal.returns-in-Err-clause-puts
 returns-in-Err-clause-puts g c =
     let s = c.self.inside in
-    let d : Drafting = record { shape = s.shape; put = s.put; writer = s.writer } in
+    let d : FileWriter = record { shape = s.shape; put = s.put; writer = s.writer } in
     let old = g.W.World.told c.args.world.now in
     let mid = g.W.World.told c.append-in-V.new.world in
     let size = c.write_u16.new.buf in

@@ -1,6 +1,6 @@
 use Rattle.std.proofs.Common.{⊎_elim, inl, inr}
 use Rattle.indexmap.specs.IndexMap.{values}
-use Rattle.cms_held.specs.Opening.{names_in}
+use Rattle.cms_held.specs.HeldVolumes.{names_in}
 use Rattle.cms_edf.proofs.PlanParts.{not_named}
 use Rattle.cms_edf.proofs.Planned.{files_left}
 use Rattle.cms_edf.proofs.change.FileEdit.edit_files.Goals as goal

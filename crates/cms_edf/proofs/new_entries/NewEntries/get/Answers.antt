@@ -1,7 +1,7 @@
 use Rattle.std.proofs.Common.{ap, sym, ◌∙◌, Some, List, slice_get}
 use Rattle.indexmap.specs.IndexMap.{values}
 use Rattle.cms_fields.specs.declared.entry.Entry.{Entry}
-use Rattle.cms_held.specs.Renewing.{entries_held, moved_entry}
+use Rattle.cms_held.specs.Renewals.{entries_held, moved_entry}
 use Rattle.cms_edf.specs.NewEntries.{altered}
 use Rattle.cms_edf.specs.declared.new_entries.Alteration.{Alteration}
 use Rattle.cms_edf.proofs.NewEntries.{moved_there}

@@ -1,5 +1,5 @@
 use Rattle.cms_edit.specs.Editors.{answered}
-use Rattle.cms_edit.proofs.Holding.{answers}
+use Rattle.cms_edit.proofs.HeldEditors.{answers}
 use Rattle.cms_edit.proofs.editor.EditorExtension.turn.Goals as goal
 
 pub returns-in-Start : goal.returns-in-Start

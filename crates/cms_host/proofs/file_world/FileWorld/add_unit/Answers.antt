@@ -1,5 +1,5 @@
 use Rattle.std.proofs.Common.{◌≡◌, [], length, refl, ap, arith, rules}
-use Rattle.cms_host.proofs.Printing.{done_behind}
+use Rattle.cms_host.proofs.Printed.{done_behind}
 use Rattle.cms_host.proofs.Found.{pushed_there}
 use Rattle.cms_host.proofs.file_world.FileWorld.add_unit.Goals as goal
 

@@ -1,7 +1,7 @@
 use Rattle.std.proofs.Common.{◌≡◌, ◌∙◌, ◌<◌, [], Option, Some, IfSome, IsTrue, not, false, length, slice_get, refl, sym, ap, subst, inr, arith, rules}
 use Rattle.std.proofs.lemmas.Option.{slice_get_read}
 use Rattle.cms_host.specs.declared.file_unit.FileUnit.{FileUnit}
-use Rattle.cms_host.proofs.Printing.{done_behind}
+use Rattle.cms_host.proofs.Printed.{done_behind}
 use Rattle.cms_host.proofs.Found.{there_too, put_there}
 use Rattle.cms_host.proofs.file_world.FileWorld.sync_unit.Goals as goal
 

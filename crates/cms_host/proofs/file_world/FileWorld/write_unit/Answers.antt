@@ -1,6 +1,6 @@
 use Rattle.std.proofs.Common.{◌≡◌, ◌∙◌, [], Some, slice_get, refl, inl, inr, rules}
 use Rattle.std.proofs.lemmas.Option.{slice_get_read}
-use Rattle.cms_host.proofs.Printing.{done_behind, prints_same}
+use Rattle.cms_host.proofs.Printed.{done_behind, prints_same}
 use Rattle.cms_host.proofs.Found.{there_too}
 use Rattle.cms_host.proofs.file_world.FileWorld.write_unit.Goals as goal
 

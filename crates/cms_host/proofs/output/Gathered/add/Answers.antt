@@ -1,5 +1,5 @@
 use Rattle.std.proofs.Common.{◌≡◌, [], rules}
-use Rattle.cms_host.proofs.Printing.{printed_in_the_end}
+use Rattle.cms_host.proofs.Printed.{printed_in_the_end}
 use Rattle.cms_host.proofs.output.Gathered.add.Goals as goal
 
 pub returns-clause-taken : goal.returns-clause-taken

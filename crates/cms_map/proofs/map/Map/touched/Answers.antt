@@ -1,7 +1,7 @@
 use Rattle.std.proofs.Common.{◌-◌, ◌^◌, ◌≤◌, length, arith}
 use Rattle.std.specs.Prelude.{All}
 use Rattle.std.proofs.lemmas.List.{get_or_default}
-use Rattle.cms_map.proofs.Touching.{touches_next, touches_all, touched_below, touched_small}
+use Rattle.cms_map.proofs.TouchedBlocks.{touches_next, touches_all, touched_below, touched_small}
 use Rattle.cms_map.proofs.map.Map.touched.Goals as goal
 
 pub unwrap-requires : goal.unwrap-requires

@@ -1,5 +1,5 @@
 use Rattle.std.proofs.Common.{◌+◌, ◌-◌, ◌^◌, ◌≤◌, vec_len, vec_capacity}
-use Rattle.cms_map.proofs.Touching.{Touching}
+use Rattle.cms_map.proofs.TouchedBlocks.{Touching}
 use Rattle.cms_map.proofs.map.Map.touched.Given as goal
 
 abbrev pub invariant-loop-place : goal.invariant-loop-place

@@ -1,5 +1,5 @@
 use Rattle.std.proofs.Common.{◌∙◌}
-use Rattle.cms_names.proofs.Fitting.{answer_agrees}
+use Rattle.cms_names.proofs.Fits.{answer_agrees}
 use Rattle.cms_names.proofs.pattern.Pattern.fits.Goals as goal
 
 pub returns-clause-relation : goal.returns-clause-relation

@@ -1,37 +1,37 @@
 use Rattle.std.proofs.Common.{rules, ◌≡◌, ◌⊎◌, inl, inr, ◌<◌, ◌≤◌, ◌+◌, ◌++◌, ℕ, List, true, false, length, Err, refl, sym, ◌∙◌, ap, subst, arith}
 use Rattle.std.proofs.lemmas.Result.{err_from_is_err_and}
-use Rattle.cms_records.specs.Scans.{Scan, Holds, EndWithin, Passes, IsCut, sizes_in}
-use Rattle.cms_records.proofs.Scanning.{holds_more, waits_past}
+use Rattle.cms_records.specs.Scans.{VarScan, Holds, EndWithin, Passes, IsCut, sizes_in}
+use Rattle.cms_records.proofs.Scans.{holds_more, waits_past}
 use Rattle.cms_records.proofs.scan.VarScan.feed.Goals.{else-loop-done-test, then-loop-done-test+in_ok-pass+then-not-branch}
 use Rattle.cms_records.proofs.scan.VarScan.feed.Goals as goal
 
-abbrev Reads : List ℕ → Scan → Type 0
+abbrev Reads : List ℕ → VarScan → Type 0
 Reads bytes s = (s.left ≡ 0) ⊎ Passes bytes s
 
-abbrev Ready : ℕ → List ℕ → List ℕ → Scan → Type 0
+abbrev Ready : ℕ → List ℕ → List ℕ → VarScan → Type 0
 Ready count bytes piece s = Holds count (bytes ++ piece) s × ((s.left ≡ 0) ⊎ (Passes bytes s × IsCut s.fed s.place s.size))
 
-reads : (bytes : List ℕ) (s : Scan) → (s.left ≡ 0) ⊎ EndWithin bytes s.place s.high s.size → Reads bytes s
+reads : (bytes : List ℕ) (s : VarScan) → (s.left ≡ 0) ⊎ EndWithin bytes s.place s.high s.size → Reads bytes s
 reads bytes s (inl none) = inl none
 reads bytes s (inr w) = inr (waits_past bytes s.place s.high s.size w)
 
-passes : (bytes : List ℕ) (s : Scan) → 1 ≤ s.left → Reads bytes s → Passes bytes s
+passes : (bytes : List ℕ) (s : VarScan) → 1 ≤ s.left → Reads bytes s → Passes bytes s
 passes bytes s some (inl none) = absurd (omega arith)
 passes bytes s some (inr p) = p
 
 pub loop-done-init : goal.loop-done-init
 loop-done-init c =
     let more = c.self.inside.fed + length c.args.piece.now in
-    let new = ap (λ (s : Scan). record s { fed = more }) c.self.view_is in
-    let fed' : c.self.inside.fed ≡ c.args.self.now.fed = ap (λ (s : Scan). s.fed) c.self.view_is in
-    let left' : c.self.inside.left ≡ c.args.self.now.left = ap (λ (s : Scan). s.left) c.self.view_is in
+    let new = ap (λ (s : VarScan). record s { fed = more }) c.self.view_is in
+    let fed' : c.self.inside.fed ≡ c.args.self.now.fed = ap (λ (s : VarScan). s.fed) c.self.view_is in
+    let left' : c.self.inside.left ≡ c.args.self.now.left = ap (λ (s : VarScan). s.left) c.self.view_is in
     record {
       state = λ count bytes fed. (
         subst (Holds count (bytes ++ c.args.piece.now)) (sym new) (holds_more count bytes c.args.piece.now c.args.self.now more (omega (arith, fed')) fed.holds),
         subst (Reads bytes) (sym c.self.view_is) (reads bytes c.args.self.now fed.waits),
       );
       left = omega (arith, left');
-      bsize = ap (λ (s : Scan). s.bsize) c.self.view_is;
+      bsize = ap (λ (s : VarScan). s.bsize) c.self.view_is;
       fed = refl;
     }
 
@@ -39,8 +39,8 @@ pub returns-in_err-pass-clause-fault : goal.returns-in_err-pass-clause-fault
 returns-in_err-pass-clause-fault c =
     let l = c.loop-done in
     let p = err_from_is_err_and c.from_residual.result c.from_residual.ensures.1 in
-    let fed' : c.self.inside.fed ≡ c.args.self.now.fed = ap (λ (s : Scan). s.fed) c.self.view_is in
-    let left' : c.self.inside.left ≡ c.args.self.now.left = ap (λ (s : Scan). s.left) c.self.view_is in
+    let fed' : c.self.inside.fed ≡ c.args.self.now.fed = ap (λ (s : VarScan). s.fed) c.self.view_is in
+    let left' : c.self.inside.left ≡ c.args.self.now.left = ap (λ (s : VarScan). s.left) c.self.view_is in
     let less : l._done < c.self.inside.left = search rules in
     let held = l.invariant.left in
     rw (p.1, p.2) (λ count bytes rest fed.
@@ -52,8 +52,8 @@ returns-in_err-pass-clause-fault c =
 pub loop-done-preserved : goal.loop-done-preserved
 loop-done-preserved c =
     let l = c.loop-done in
-    let fed' : c.self.inside.fed ≡ c.args.self.now.fed = ap (λ (s : Scan). s.fed) c.self.view_is in
-    let left' : c.self.inside.left ≡ c.args.self.now.left = ap (λ (s : Scan). s.left) c.self.view_is in
+    let fed' : c.self.inside.fed ≡ c.args.self.now.fed = ap (λ (s : VarScan). s.fed) c.self.view_is in
+    let left' : c.self.inside.left ≡ c.args.self.now.left = ap (λ (s : VarScan). s.left) c.self.view_is in
     let less : l._done < c.self.inside.left = search rules in
     let held = l.invariant.left in
     let more : c.in_ok-pass.field-0 ≡ true = search rules in
@@ -73,8 +73,8 @@ pub returns-clause-fed : goal.returns-clause-fed
 returns-clause-fed c = λ count bytes fed.
     let l = c.loop-done in
     let piece = c.args.piece.now in
-    let fed' : c.self.inside.fed ≡ c.args.self.now.fed = ap (λ (s : Scan). s.fed) c.self.view_is in
-    let left' : c.self.inside.left ≡ c.args.self.now.left = ap (λ (s : Scan). s.left) c.self.view_is in
+    let fed' : c.self.inside.fed ≡ c.args.self.now.fed = ap (λ (s : VarScan). s.fed) c.self.view_is in
+    let left' : c.self.inside.left ≡ c.args.self.now.left = ap (λ (s : VarScan). s.left) c.self.view_is in
     let was = fed.holds.fed in
     let held = l.invariant.left in
     let st = l.invariant.state count bytes fed in

@@ -1,11 +1,11 @@
 use Rattle.std.proofs.Common.{◌≡◌, ◌<◌, ◌∙◌, ℕ, List, Ok, ap, subst, arith}
 use Rattle.cms_model.specs.Records.{varying}
 use Rattle.cms_records.specs.Starts.{begins, last_start, start_in}
-use Rattle.cms_records.specs.Scans.{Scan, IsFed, filled_by}
-use Rattle.cms_records.proofs.Scanning.{starts_well}
+use Rattle.cms_records.specs.Scans.{VarScan, IsFed, filled_by}
+use Rattle.cms_records.proofs.Scans.{starts_well}
 use Rattle.cms_records.proofs.scan.VarScan.last_start.Goals as goal
 
-abbrev Told : ℕ → Scan → Type 0
+abbrev Told : ℕ → VarScan → Type 0
 Told r s = (count : ℕ) (bytes : List ℕ) (records : List (List ℕ)) → IsFed count bytes s → varying s.bsize count 0 bytes ≡ Ok records
     → r ≡ last_start s.bsize (filled_by records) (begins 0 records)
 

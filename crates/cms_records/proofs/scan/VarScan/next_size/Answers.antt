@@ -1,6 +1,6 @@
 use Rattle.std.proofs.Common.{rules, ◌≡◌, ◌≤◌, ◌+◌, None, length, sym, ◌∙◌, ap, subst, arith}
-use Rattle.cms_records.specs.Scans.{Scan, IsPast}
-use Rattle.cms_records.proofs.Scanning.{length_at}
+use Rattle.cms_records.specs.Scans.{VarScan, IsPast}
+use Rattle.cms_records.proofs.Scans.{length_at}
 use Rattle.cms_records.proofs.scan.VarScan.next_size.Goals as goal
 
 pub returns-clause-size : goal.returns-clause-size
@@ -8,9 +8,9 @@ returns-clause-size c = λ count bytes long holds past.
     let v = c.self.inside in
     let now = c.args.self.now in
     let none : v.size ≡ None = search rules in
-    let at : v.place ≡ now.place = ap (λ (s : Scan). s.place) c.self.view_is in
-    let fed : v.fed ≡ now.fed = ap (λ (s : Scan). s.fed) c.self.view_is in
-    let size : now.size ≡ None = sym (ap (λ (s : Scan). s.size) c.self.view_is) ∙ none in
+    let at : v.place ≡ now.place = ap (λ (s : VarScan). s.place) c.self.view_is in
+    let fed : v.fed ≡ now.fed = ap (λ (s : VarScan). s.fed) c.self.view_is in
+    let size : now.size ≡ None = sym (ap (λ (s : VarScan). s.size) c.self.view_is) ∙ none in
     let past' : IsPast bytes now.place now.high None = subst (IsPast bytes now.place now.high) size past in
     let room : v.place + 2 ≤ v.fed = search rules in
     let all : c.args.start + length c.args.piece.now ≡ now.fed = c.requires.fed in

@@ -1,8 +1,8 @@
 use Rattle.std.proofs.Common.{rules, ◌≡◌, ◌<◌, ◌≤◌, ◌+◌, ◌-◌, ◌++◌, ℕ, None, Some, inl, sym, ◌∙◌, ap, subst, arith}
 use Rattle.std.specs.Prelude.{max}
-use Rattle.cms_records.specs.Scans.{Scan, Holds}
+use Rattle.cms_records.specs.Scans.{VarScan, Holds}
 use Rattle.cms_records.specs.Starts.{with_place}
-use Rattle.cms_records.proofs.Scanning.{holds_zero, holds_size, holds_next, past_next}
+use Rattle.cms_records.proofs.Scans.{holds_zero, holds_size, holds_next, past_next}
 use Rattle.cms_records.proofs.scan.VarScan.pass.Goals as goal
 
 pub returns-then-size-eq0-clause-fault : goal.returns-then-size-eq0-clause-fault
@@ -11,7 +11,7 @@ returns-then-size-eq0-clause-fault c = λ count bytes rest long holds past.
     let n = c.in-Some.size in
     let zero' : n ≡ 0 = search rules in
     let told = c.in-Some.ensures.size count bytes long holds past in
-    let at : c.self.inside.place ≡ now.place = ap (λ (s : Scan). s.place) c.self.view_is in
+    let at : c.self.inside.place ≡ now.place = ap (λ (s : VarScan). s.place) c.self.view_is in
     rw at (holds_zero count (bytes ++ c.args.piece.now) now holds c.requires.some (told.1 ∙ zero') told.0 rest)
 
 pub returns-then-self-size-clause-stays : goal.returns-then-self-size-clause-stays
@@ -20,8 +20,8 @@ returns-then-self-size-clause-stays c = λ no_more count bytes long holds past.
     let n = c.in-Some.size in
     let some : 1 ≤ n = search rules in
     let told = c.in-Some.ensures.size count bytes long holds past in
-    let at : c.self.inside.place ≡ now.place = ap (λ (s : Scan). s.place) c.self.view_is in
-    let new = ap (λ (s : Scan). record s { size = Some n }) c.self.view_is in
+    let at : c.self.inside.place ≡ now.place = ap (λ (s : VarScan). s.place) c.self.view_is in
+    let new = ap (λ (s : VarScan). record s { size = Some n }) c.self.view_is in
     let less = past_next bytes now.place now.high n now.size past c.in-Some.ensures.known in
     let cut : c.self.inside.fed < c.self.inside.place + 2 + n = search rules in
     (subst (Holds count (bytes ++ c.args.piece.now)) (sym new) (holds_size count (bytes ++ c.args.piece.now) now n holds told.1 some told.0), omega (arith, less, at), cut)
@@ -32,14 +32,14 @@ returns-clause-passed c = λ more count bytes long holds past.
     let n = c.in-Some.size in
     let some : 1 ≤ n = search rules in
     let told = c.in-Some.ensures.size count bytes long holds past in
-    let at : c.self.inside.place ≡ now.place = ap (λ (s : Scan). s.place) c.self.view_is in
-    let fed : c.self.inside.fed ≡ now.fed = ap (λ (s : Scan). s.fed) c.self.view_is in
-    let new = ap (λ (s : Scan). record s { left = s.left - 1; place = s.place + (2 + n); longest = max s.longest n; size = None; first = Some (with_place s.bsize s.first s.place) }) c.self.view_is in
+    let at : c.self.inside.place ≡ now.place = ap (λ (s : VarScan). s.place) c.self.view_is in
+    let fed : c.self.inside.fed ≡ now.fed = ap (λ (s : VarScan). s.fed) c.self.view_is in
+    let new = ap (λ (s : VarScan). record s { left = s.left - 1; place = s.place + (2 + n); longest = max s.longest n; size = None; first = Some (with_place s.bsize s.first s.place) }) c.self.view_is in
     let less = past_next bytes now.place now.high n now.size past c.in-Some.ensures.known in
     let fits : c.self.inside.place + 2 + n ≤ c.self.inside.fed = search rules in
     let longest : c.max-self-inside.result ≡ max c.self.inside.longest n = search rules in
     let size : c.bytes-bsize.result ≡ c.self.inside.bsize = c.bytes-bsize.ensures.value in
-    let bsize : c.self.inside.bsize ≡ now.bsize = ap (λ (s : Scan). s.bsize) c.self.view_is in
+    let bsize : c.self.inside.bsize ≡ now.bsize = ap (λ (s : VarScan). s.bsize) c.self.view_is in
     let wide : 0 < now.bsize = omega (arith, c.bytes-bsize.ensures.least, size, bsize) in
     let first : c.first_with-first.result ≡ with_place c.self.inside.bsize c.self.inside.first c.self.inside.place =
     c.first_with-first.ensures ∙ ap (λ (b : ℕ). with_place b c.self.inside.first c.self.inside.place) size in (

@@ -1,5 +1,5 @@
 use Rattle.std.proofs.Common.{◌∙◌, ap, length}
-use Rattle.cms_records.proofs.Reading.{length-records_at, records_are}
+use Rattle.cms_records.proofs.StoredRecords.{length-records_at, records_are}
 use Rattle.cms_records.proofs.stored.Records.of.Goals as goal
 
 pub returns-clause-stands : goal.returns-clause-stands

@@ -1,7 +1,7 @@
 use Rattle.std.proofs.Common.{◌<◌, ◌≤◌, ⊎_elim, ◌∙◌, arith}
 use Rattle.std.proofs.lemmas.Bool.{cases_lt}
 use Rattle.cms_tree.proofs.Sums.{div_ceil_is}
-use Rattle.cms_tree.proofs.Resuming.{over_first}
+use Rattle.cms_tree.proofs.Resumes.{over_first}
 use Rattle.cms_tree.proofs.climb.Before.above.Goals as goal
 
 pub split_at-requires : goal.split_at-requires

@@ -7,9 +7,9 @@ use Rattle.cms_tree.specs.declared.climb.Child.{Child}
 use Rattle.cms_tree.specs.Levels.{over_count}
 use Rattle.cms_tree.specs.Builds.{node_at}
 use Rattle.cms_tree.specs.Tiers.{lowest, node_on, IsTier, Stand, Rises}
-use Rattle.cms_tree.specs.Climbs.{Climbing, Adds, AddsOn, AddsOwn, numbers_behind}
-use Rattle.cms_tree.proofs.Lifting.{some_fan}
-use Rattle.cms_tree.proofs.Stepping.{over_all, tier_lowest, tier_lowest_on, leaf_child, leaf_added, leaf_added_on}
+use Rattle.cms_tree.specs.Climbs.{Climb, Adds, AddsOn, AddsOwn, numbers_behind}
+use Rattle.cms_tree.proofs.ClimbBlocks.{some_fan}
+use Rattle.cms_tree.proofs.ClimbSteps.{over_all, tier_lowest, tier_lowest_on, leaf_child, leaf_added, leaf_added_on}
 use Rattle.cms_tree.proofs.climb.Climb.add.Goals as goal
 
 pub rise-requires-clause-fresh : goal.rise-requires-clause-fresh
@@ -27,7 +27,7 @@ returns-clause-adds g c =
     let s = c.self.inside in
     let i = c.self.invariant in
     let fan = s.bsize / s.psize in
-    let v : Climbing = record { bsize = s.bsize; psize = s.psize; count = s.leaves; added = s.added; levels = s.levels.items } in
+    let v : Climb = record { bsize = s.bsize; psize = s.psize; count = s.leaves; added = s.added; levels = s.levels.items } in
     rw (← c.self.view_is) (λ leaves marks climbs next.
     let d = c.deref_mut.ensures.value in
     let fewer = rw (← c.self.view_is) at c.requires.fewer in
@@ -52,7 +52,7 @@ returns-clause-adds_on g c =
     let s = c.self.inside in
     let i = c.self.invariant in
     let fan = s.bsize / s.psize in
-    let v : Climbing = record { bsize = s.bsize; psize = s.psize; count = s.leaves; added = s.added; levels = s.levels.items } in
+    let v : Climb = record { bsize = s.bsize; psize = s.psize; count = s.leaves; added = s.added; levels = s.levels.items } in
     rw (← c.self.view_is) (λ base es leaves marks climbs next.
     let d = c.deref_mut.ensures.value in
     let fewer = rw (← c.self.view_is) at c.requires.fewer in

@@ -5,8 +5,8 @@ use Rattle.cms_model.specs.Sizes.{levels}
 use Rattle.cms_tree.specs.Tiers.{lowest}
 use Rattle.cms_tree.specs.Climbs.{HasSize}
 use Rattle.cms_tree.specs.Resumes.{IsClear}
-use Rattle.cms_tree.proofs.Lifting.{some_fan}
-use Rattle.cms_tree.proofs.Stepping.{zeros_stand}
+use Rattle.cms_tree.proofs.ClimbBlocks.{some_fan}
+use Rattle.cms_tree.proofs.ClimbSteps.{zeros_stand}
 use Rattle.cms_tree.proofs.climb.Climb.new.Goals as goal
 
 pub returns : goal.returns

@@ -8,9 +8,9 @@ use Rattle.cms_tree.specs.declared.climb.Before.{Before}
 use Rattle.cms_tree.specs.Builds.{Child}
 use Rattle.cms_tree.specs.Climbs.{IsClimbing}
 use Rattle.cms_tree.specs.Resumes.{IsClear, IsResumed}
-use Rattle.cms_tree.proofs.Building.{fan_wide}
-use Rattle.cms_tree.proofs.Stepping.{over_all}
-use Rattle.cms_tree.proofs.Resuming.{IsStart, kept_room, over_fewer, resumed}
+use Rattle.cms_tree.proofs.BuiltTrees.{fan_wide}
+use Rattle.cms_tree.proofs.ClimbSteps.{over_all}
+use Rattle.cms_tree.proofs.Resumes.{IsStart, kept_room, over_fewer, resumed}
 use Rattle.cms_tree.proofs.climb.Climb.resume.Given as given
 use Rattle.cms_tree.proofs.climb.Climb.resume.Goals as goal
 use Rattle.cms_tree.proofs.climb.Climb.resume.Goals.{After-deref_mut, In-Ok}

@@ -1,7 +1,7 @@
 use Rattle.std.proofs.Common.{◌≡◌, Some, ap, ◌∙◌, arith}
 use Rattle.std.proofs.lemmas.Map.Text.{text_keys}
 use Rattle.std.specs.BTreeMap.{get_by_text}
-use Rattle.cms_world.proofs.Standing.{standing_given}
+use Rattle.cms_world.proofs.UnitImages.{standing_given}
 use Rattle.cms_world.proofs.mem.MemWorld.add_image.Goals as goal
 
 pub returns-clause-given : goal.returns-clause-given

@@ -1,5 +1,5 @@
 use Rattle.std.proofs.Common.{sym, ◌∙◌}
-use Rattle.cms_world.proofs.Standing.{none_is_named}
+use Rattle.cms_world.proofs.UnitImages.{none_is_named}
 use Rattle.cms_world.proofs.mem.MemWorld.standing.Goals as goal
 
 pub returns-else-is_named-clause-absent : goal.returns-else-is_named-clause-absent

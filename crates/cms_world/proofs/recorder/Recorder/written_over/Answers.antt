@@ -1,5 +1,5 @@
 use Rattle.std.proofs.Common.{◌∙◌, arith}
-use Rattle.cms_world.proofs.Standing.{written_over_next}
+use Rattle.cms_world.proofs.UnitImages.{written_over_next}
 use Rattle.cms_world.proofs.recorder.Recorder.written_over.Goals as goal
 
 pub loop-number-preserved : goal.loop-number-preserved

@@ -1,6 +1,6 @@
 use Rattle.std.proofs.Common.{◌≡◌, ◌-◌, ℕ, List, arith, drop, length, subst}
 use Rattle.std.proofs.lemmas.List.{length-drop, take_all}
-use Rattle.mini_forms.specs.Reading.{SkipsFront}
+use Rattle.mini_forms.specs.RecordReads.{SkipsFront}
 use Rattle.mini_forms.proofs.Skipped.{skips_from}
 use Rattle.mini_forms.proofs.reader.Reader.skip.Goals as goal
 

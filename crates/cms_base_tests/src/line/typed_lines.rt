@@ -1,0 +1,88 @@
+// Lines that are typed.
+use crate::line::pieces::{Pieces, in_pieces};
+use crate::line::words::blank_word;
+use cms_cases::number;
+use cms_line::type_line;
+use std::alloc::{AllocError, Global};
+
+/// How much a world takes at once, the call that fails, and the lengths of lines that are typed behind one another: how many of them are
+/// typed whole, the calls, and how many bytes are typed.
+pub const TYPED: &str = "99999 0 of 0 => 1,1,1
+99999 0 of 1 => 1,1,2
+99999 0 of 255 => 1,1,256
+99999 0 of 1023 => 1,1,1024
+99999 0 of 1024 => 1,1,1025
+99999 0 of 65535 => 1,1,65536
+99999 0 of 65536 => 1,2,65537
+99999 0 of 70000 => 1,2,70001
+1 0 of 0 3 3000 => 3,3006,3006
+2 0 of 0 3 3000 => 3,1504,3006
+7 0 of 0 3 3000 => 3,431,3006
+4096 0 of 0 3 3000 => 3,3,3006
+99999 1 of 70000 => 0,1,0
+99999 2 of 70000 => 0,2,65536";
+
+/// The line of codes, of which those that the code page lacks are typed as periods.
+pub const CODES: &str = r#"codes => Ok("Aa0 *...\n")"#;
+
+const LINE: [u8; 8] = [0xC1, 0x81, 0xF0, 0x40, 0x5C, 0x00, 0x15, 0xFF];
+
+// Types a line of so many `A`, and says whether it is typed whole; adds what should be typed.
+fn type_letters(
+    alloc: Global,
+    world: &mut Pieces<'_>,
+    wanted: &mut Vec<u8>,
+    length: usize,
+) -> Result<bool, AllocError> {
+    wanted.resize(wanted.len().saturating_add(length), b'A')?;
+    wanted.push(b'\n')?;
+    let line = vec![in alloc; 0xC1; length]?;
+    Ok(type_line(world, &line).is_ok())
+}
+
+// Types lines of these lengths, and says how many are typed whole.
+fn type_lines(
+    alloc: Global,
+    world: &mut Pieces<'_>,
+    wanted: &mut Vec<u8>,
+    lengths: &str,
+) -> Result<u32, AllocError> {
+    let mut whole = 0_u32;
+    for length in lengths.split(' ') {
+        if type_letters(alloc, world, wanted, number(length) as usize)? {
+            whole = whole.wrapping_add(1);
+        }
+    }
+    Ok(whole)
+}
+
+// Adds what comes of typing lines of these lengths.
+fn push_typing(
+    into: &mut String,
+    alloc: Global,
+    world: &mut Pieces<'_>,
+    wanted: &mut Vec<u8>,
+    lengths: &str,
+) -> Result<(), AllocError> {
+    let whole = type_lines(alloc, world, wanted, lengths)?;
+    if !wanted.starts_with(&world.typed) {
+        return into.push_str("other bytes");
+    }
+    write!(into, "{whole},{},{}", world.calls, world.typed.len())
+}
+
+/// Adds what comes of typing lines of `A`.
+pub fn push_typed(into: &mut String, alloc: Global, case: &str) -> Result<(), AllocError> {
+    let (how, lengths) = case.split_once(" of ").unwrap_or((case, ""));
+    let size = number(blank_word(how, 0)) as usize;
+    let failing = number(blank_word(how, 1)) as usize;
+    let mut world = in_pieces(alloc, b"", size, failing);
+    push_typing(into, alloc, &mut world, &mut Vec::new(alloc), lengths)
+}
+
+/// Adds what is typed of the line of codes.
+pub fn push_codes(into: &mut String, alloc: Global) -> Result<(), AllocError> {
+    let mut world = in_pieces(alloc, b"", 99, 0);
+    let _ = type_line(&mut world, &LINE);
+    write!(into, "{:?}", str::from_utf8(&world.typed))
+}

@@ -1,0 +1,49 @@
+-- What is put together is an empty volume.
+use Rattle.std.proofs.Common.{◌≤◌, ◌/◌, [], length, refl, rules, arith}
+use Rattle.cms_held.specs.EmptyVolumes.{MakePlan, IsEmptyVolume}
+use Rattle.cms_held.proofs.Allotted.{map_small, nodes_few}
+use Rattle.cms_held.proofs.Made.{made_kept}
+use Rattle.cms_edf.proofs.NewSystems.{made_ready}
+use Rattle.cms_edf.proofs.empty_volume.plan_make.Goals as goal
+
+pub of_whole-requires-2-clause-few_nodes : goal.of_whole-requires-2-clause-few_nodes
+of_whole-requires-2-clause-few_nodes c =
+    let leaves = length c.in_ok-tree.field-0.tree.leaves in
+    let size = c.bytes.ensures.value in
+    let least = c.bytes.ensures.least in
+    let most = c.bytes.ensures.most in
+    let low : 512 ≤ c.args.bsize = omega (arith, size, least) in
+    let high : c.args.bsize ≤ 4096 = omega (arith, size, most) in
+    let few = map_small c.args.unit.now.blocks c.args.bsize low high (search rules) in
+    let nodes = nodes_few (c.args.bsize / 4) leaves (omega (arith, low)) in
+    let count = c.in_ok-tree.ensures.count in
+    let pointers = c.in_ok-tree.ensures.nodes in
+    omega (arith, few, nodes, count, pointers)
+
+made : goal.After-new → MakePlan
+made c = record {
+  unit = c.args.unit.now.number;
+  disk = record { bsize = c.args.bsize; count = c.args.unit.now.blocks };
+  systems = record {
+    label = record { volid = c.args.volid; bsize = c.bytes.result; origin = 4; blocks = c.args.unit.now.blocks; in_use = c.in_ok-tree.field-0.used };
+    label_bytes = c.in_ok-label_bytes.label_bytes.items;
+    directory = c.in_ok-directory.directory;
+    directory_part = c.in_ok-directory_part.directory_part;
+    directory_bytes = c.in_ok-directory_bytes.directory_bytes.items;
+    map = c.in_ok-tree.field-0.tree;
+    map_part = c.in_ok-map_part.map_part;
+    bits = c.in_ok-tree.field-0.map;
+  };
+}
+
+empty : (c : goal.After-new) → IsEmptyVolume (made c) c.args.volid c.args.stamp.now
+unfolding made
+empty c = search rules
+
+pub invariant_of-result : goal.invariant_of-result
+unfolding made
+invariant_of-result c = made_ready (made c) c.args.volid c.args.stamp.now (empty c)
+
+pub invariant_of-result-2 : goal.invariant_of-result-2
+unfolding made
+invariant_of-result-2 c = (made_kept (made c) [] (empty c) refl, search rules)

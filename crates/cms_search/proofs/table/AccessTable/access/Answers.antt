@@ -1,0 +1,20 @@
+use Rattle.std.proofs.Common.{◌<◌, ℕ, length, subst, arith}
+use Rattle.std.specs.Prelude.{Result}
+use Rattle.cms_search.specs.Tables.{EndsAccess}
+use Rattle.cms_search.specs.declared.fault.SearchFault.{SearchFault}
+use Rattle.cms_search.proofs.Tables.{get_some}
+use Rattle.cms_search.proofs.table.AccessTable.access.Goals as goal
+
+pub returns-clause-access : goal.returns-clause-access
+returns-clause-access g c =
+    let t = c.args.self.now in
+    let place = c.in_ok-place.place in
+    let within = c.in_ok-place.ensures.within in
+    let long = c.open-found.ensures.table.doubts in
+    let less : place < length t.doubts = omega (arith, within, long) in
+    let unit = get_some t.units place within in
+    let doubt = get_some t.doubts place less in
+    subst
+    (λ (r : Result ℕ SearchFault). EndsAccess (g.W.World.told c.args.world.now) (g.W.World.told c.open-found.new.world) t c.settle.new.self c.args.letter c.args.parent c.settle.result r)
+    c.in_ok-place.ensures.wanted
+    (unit.0, doubt.0, c.open-found.result, unit.1, doubt.1, c.open-found.ensures.opens unit.0 doubt.0 unit.1 doubt.1, c.settle.ensures.answer, c.settle.ensures.table unit.0 unit.1)

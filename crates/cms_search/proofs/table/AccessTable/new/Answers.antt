@@ -1,0 +1,13 @@
+use Rattle.std.proofs.Common.{◌≡◌, ◌∙◌, ℕ, ap, arith, rules, false, replicate}
+use Rattle.std.specs.Prelude.{None}
+use Rattle.cms_search.proofs.Tables.{table_made}
+use Rattle.cms_search.proofs.table.AccessTable.new.Goals as goal
+
+pub invariant_of-result : goal.invariant_of-result
+invariant_of-result c =
+    let last = c.loop-test.false in
+    let high = c.loop.auto.counter-end in
+    let all : c.loop.counter ≡ 26 = omega (arith, last, high) in
+    table_made c.args.units c.in_ok-vec.field-0.items c.loop.seats.items c.requires
+    (c.in_ok-vec.ensures.items_if_clones_equal (λ y e. search rules) ∙ ap (λ (n : ℕ). replicate n false) c.len.ensures)
+    (c.loop.invariant ∙ ap (λ (n : ℕ). replicate n None) all)

@@ -1,6 +1,0 @@
-use Rattle.cms_search.specs.contracts.table.Table.{the_view}
-use Rattle.cms_search.proofs.Tables.{table_released}
-use Rattle.cms_search.proofs.table.Table.release.Goals as goal
-
-pub invariant_of-self : goal.invariant_of-self
-invariant_of-self c = table_released (the_view c.self.inside) c.args.letter c.self.invariant

@@ -1,6 +1,0 @@
-use Rattle.std.proofs.Common.{◌∙◌, arith}
-use Rattle.cms_tree.proofs.Pathing.{passes}
-use Rattle.cms_tree.proofs.sharing.rest_from.Goals as goal
-
-pub loop-at-preserved : goal.loop-at-preserved
-loop-at-preserved c from to low = c.loop-at.invariant from to low ∙ passes from to c.loop-at.at c.args.numbers.now (omega arith) (omega arith)

@@ -1,4 +1,0 @@
-use Rattle.mini_work.proofs.checking.line_of.Goals as goal
-
-pub returns : goal.returns
-returns c = c.format.ensures.ok

@@ -1,0 +1,46 @@
+use Rattle.mini_work.proofs.Caused.{end_fails, end_then, later_same}
+use Rattle.std.proofs.Common.{Err, FitsSigned, List, Ok, rules, subst, w32, ℕ, ℤ}
+use Rattle.std.proofs.lemmas.Int.{to_z-of_z}
+use Rattle.std.proofs.lemmas.Result.{err_from_is_err_and}
+use Rattle.cms_fields.specs.declared.time.Stamp.{Stamp}
+use Rattle.mini_work.specs.Changes.{IsAsked}
+use Rattle.mini_work.specs.CommandActs.{Continues, Goes}
+use Rattle.mini_work.specs.Puts.{IsPut, IsPutting}
+use Rattle.mini_work.proofs.PartsJoined.{cut_any}
+use Rattle.mini_work.proofs.UnitStands.{may_still, same_on}
+use Rattle.mini_work.proofs.Worked.{timed_on}
+use Rattle.mini_work.proofs.put.put_timed.Goals as goal
+
+pub put_all-requires-clause-may : goal.put_all-requires-clause-may
+put_all-requires-clause-may g c =
+    may_still _ _ c.args.disk.now c.args.disk.now c.ask_clock.ensures.grown (same_on c.args.disk.now) c.requires.may
+
+pub returns-in_err-stamp-clause-goes : goal.returns-in_err-stamp-clause-goes
+returns-in_err-stamp-clause-goes g c = λ files there.
+    let told = g.W.World.told in
+    let p = err_from_is_err_and c.from_residual.result c.from_residual.ensures.1 in
+    let d = c.args.disk.now in
+    let small : FitsSigned w32 c.args.put.now.offset = search rules in
+    let o = to_z-of_z w32 c.args.put.now.offset small in
+    let asked = subst (λ (x : ℤ). Continues (IsAsked x) (told c.args.world.now) d (told c.ask_clock.new.world) d (Err c.in_err-stamp.field-0.0)) o
+    (c.in_err-stamp.ensures.goes d) in
+    cut_any (IsAsked c.args.put.now.offset) (IsPutting files c.args.put.now) _ _ d d c.in_err-stamp.field-0.0 p.0 _ p.1 asked
+
+pub returns-clause-goes : goal.returns-clause-goes
+returns-clause-goes g c = λ files there.
+    let told = g.W.World.told in
+    let d = c.args.disk.now in
+    let small : FitsSigned w32 c.args.put.now.offset = search rules in
+    let o = to_z-of_z w32 c.args.put.now.offset small in
+    let asked = subst (λ (x : ℤ). Continues (IsAsked x) (told c.args.world.now) d (told c.ask_clock.new.world) d (Ok c.in_ok-stamp.stamp)) o
+    (c.in_ok-stamp.ensures.goes d) in
+    timed_on c.args.put.now.offset (λ (stamp : Stamp). Goes (IsPut files c.args.put.now stamp) c.args.put.now.files)
+    c.in_ok-stamp.stamp _ (told c.ask_clock.new.world) _ d c.put_all.new.disk _ asked
+    (subst (λ (words : List (List ℕ)). Continues (Goes (IsPut files c.args.put.now c.in_ok-stamp.stamp) words) (told c.ask_clock.new.world) d
+    (told c.put_all.new.world) c.put_all.new.disk c.put_all.result) c.as_slice.ensures (c.put_all.ensures.goes files there))
+
+pub returns-in_err-stamp-clause-cause : goal.returns-in_err-stamp-clause-cause
+returns-in_err-stamp-clause-cause g c = λ may. let x = c.in_err-stamp.ensures.cause (g.H.Host.faults c.args.host.now) in end_fails _ _ _ c.in_err-stamp.field-0.0 c.from_residual.result (later_same _) c.from_residual.ensures.1 x.later x.failed
+
+pub returns-clause-cause : goal.returns-clause-cause
+returns-clause-cause g c = λ may. end_then _ _ _ _ (c.in_ok-stamp.ensures.cause (g.H.Host.faults c.args.host.now)).later (c.put_all.ensures.cause may)
