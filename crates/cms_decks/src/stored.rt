@@ -1,31 +1,12 @@
 // The records of a file in its stored bytes.
-ghost use Rattle.std.specs.Prelude.{◌≡◌, ◌+◌, ◌≤◌, ◌<◌, ◌^◌, length, is_some, IfOk, Ok};
+ghost use Rattle.std.specs.Prelude.{◌≡◌, ◌<◌, ◌^◌, length, is_some};
 ghost use Rattle.cms_model.specs.Records.{varying};
-ghost use Rattle.cms_records.specs.Views.{first_size, longest_in};
+ghost use Rattle.cms_records.specs.Views.{longest_in};
 ghost use Rattle.cms_decks.specs.Stored as spec;
 
 use cms_model::VarFault;
 use cms_names::Format;
-use cms_text::bytes::half_at;
-
-// The length of the record with which bytes begin, at this place in the whole.
-#[tactic(auto, unfolding(cms_records::specs::Views::first_size))]
-fn first_size(bytes: &[u8], place: u32) -> Result<u32, VarFault>
-    ensures size { result ≡ first_size place bytes.now }
-    ensures within { IfOk result (λ size. 2 + size ≤ length bytes.now) }
-{
-    if bytes.len() < 2 {
-        return Err(VarFault::PastEnd(place));
-    }
-    let size = u32::from(half_at(bytes, 0));
-    if size < 1 {
-        return Err(VarFault::Zero(place));
-    }
-    if bytes.len() < 2 + size as usize {
-        return Err(VarFault::PastEnd(place));
-    }
-    Ok(size)
-}
+use cms_records::first_size;
 
 // The length of the longest of so many records of varying lengths, which fill the bytes.
 fn longest_of(bytes: &[u8], count: u32) -> Result<u32, VarFault>

@@ -16,4 +16,4 @@ pub use scan::VarScan;
 pub use sizes::VarSizes;
 pub use state::{Fed, RecordState};
 pub use stored::Records;
-pub use var_records::{VarView, put_var, var_check};
+pub use var_records::{VarView, first_size, put_var, var_check};

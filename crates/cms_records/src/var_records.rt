@@ -90,9 +90,9 @@ pub fn var_check(bytes: &[u8], count: u32, bsize: BlockSize) -> Result<u32, VarF
     Ok(longest)
 }
 
-// The length of the record with which bytes begin, at this place in the whole.
+/// The length of the record with which bytes begin, at this place in the whole.
 #[tactic(auto, unfolding(crate::specs::Views::first_size))]
-fn first_size(bytes: &[u8], place: u32) -> Result<u32, VarFault>
+pub fn first_size(bytes: &[u8], place: u32) -> Result<u32, VarFault>
     ensures size { result ≡ first_size place bytes.now }
     ensures within { IfOk result (λ size. 2 + size ≤ length bytes.now) }
 {
