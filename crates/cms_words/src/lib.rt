@@ -12,6 +12,6 @@ mod units;
 mod words;
 
 pub use fault::WordFault;
-pub use unit::UnitWord;
+pub use unit::{UnitWord, block_size};
 pub use units::UnitWords;
 pub use words::{Words, read_words};

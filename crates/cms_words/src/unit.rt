@@ -24,8 +24,9 @@ pub struct UnitWord {
     pub name: ImageName,
 }
 
+/// The block size that a word says, 512, 1024, 2048 or 4096.
 #[tactic(auto, unfolding(crate::specs::UnitWords::bsize_of))]
-fn bsize(word: &str) -> Option<BlockSize>
+pub fn block_size(word: &str) -> Option<BlockSize>
     ensures { result ≡ bsize_of word.now }
 {
     match word {
@@ -114,7 +115,7 @@ fn unit_text(word: &str) -> Option<UnitText<'_>>
 {
     let parts = split_fields(word)?;
     let vdev = device(parts.device.as_bytes())?;
-    let bsize = bsize(parts.size)?;
+    let bsize = block_size(parts.size)?;
     let access = access(parts.access)?;
     if parts.name.is_empty() {
         return None;

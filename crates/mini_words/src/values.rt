@@ -1,7 +1,6 @@
 // What single words of a command say.
 ghost use Rattle.std.specs.Prelude.{◌≡◌, ◌≤◌, codes, map, option_map, IfOk};
 ghost use Rattle.cms_fields.specs.Offsets.{IsOffset};
-ghost use Rattle.cms_words.specs.UnitWords.{bsize_of};
 ghost use Rattle.mini_forms.specs.Readers.{IsSize};
 ghost use Rattle.mini_forms.specs.RecordReads.{size_in, start_of};
 ghost use Rattle.mini_words.specs.Commands.{is_set, rows_in, text_in, value_in, values_in};
@@ -13,6 +12,7 @@ use crate::numbers::{digit, number, offset};
 use clap::ArgMatches;
 use cms_journal::{BlockSize, MOST_BLOCKS};
 use cms_names::Name;
+use cms_words::block_size;
 use mini_forms::{Form, Layout};
 
 /// The most bytes of a record.
@@ -48,19 +48,6 @@ pub fn is_set(matches: &ArgMatches<'_>, id: &str) -> bool
     ensures { result ≡ is_set id.now (rows_in matches.now) }
 {
     value(matches, id).is_some_and(|text| text == "true")
-}
-
-#[tactic(auto, unfolding(cms_words::specs::UnitWords::bsize_of))]
-fn block_size(word: &str) -> Option<BlockSize>
-    ensures { result ≡ bsize_of word.now }
-{
-    match word {
-        "512" => Some(BlockSize::new(512)),
-        "1024" => Some(BlockSize::new(1024)),
-        "2048" => Some(BlockSize::new(2048)),
-        "4096" => Some(BlockSize::new(4096)),
-        _ => None,
-    }
 }
 
 /// The block size, where one was said.
