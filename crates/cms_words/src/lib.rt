@@ -14,4 +14,4 @@ mod words;
 pub use fault::WordFault;
 pub use unit::{UnitWord, block_size};
 pub use units::UnitWords;
-pub use words::{Words, read_words};
+pub use words::{Words, read_words, word_texts};

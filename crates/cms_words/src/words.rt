@@ -38,8 +38,8 @@ pub struct Words {
     pub units: UnitWords,
 }
 
-// The words as texts.
-fn texts<'a>(alloc: Global, words: &'a Argv) -> Result<Vec<&'a str>, AllocError>
+/// The words as texts.
+pub fn word_texts<'a>(alloc: Global, words: &'a Argv) -> Result<Vec<&'a str>, AllocError>
     ensures { IfOk result (λ v. map (λ s. s.now) v.items ≡ words.entry.now) }
 {
     let mut texts = Vec::new(alloc);
@@ -192,7 +192,7 @@ pub fn read_words(alloc: Global, words: &Argv) -> Result<Words, WordFault>
     ensures answer { IsAnswer result (words_of words.now) }
     ensures offset { IfOk result (λ words. IsOffset words.offset) }
 {
-    match texts(alloc, words) {
+    match word_texts(alloc, words) {
         Ok(texts) => read_texts(alloc, &texts),
         Err(_) => Err(WordFault::Memory),
     }

@@ -25,6 +25,7 @@ use clap::ArgMatches;
 use cms_journal::BlockSize;
 use cms_names::Name;
 use cms_text::Series;
+use cms_words::word_texts;
 use cms_world::{Argv, ImageName};
 use mini_forms::Layout;
 use std::alloc::{AllocError, Global};
@@ -356,24 +357,13 @@ fn read_texts<'a>(alloc: Global, words: &'a [&'a str]) -> Result<Series<Request>
     }
 }
 
-// The words as texts.
-fn words_of<'a>(alloc: Global, words: &'a Argv) -> Result<Vec<&'a str>, AllocError>
-    ensures { IfOk result (λ texts. map (λ s. s.now) texts.items ≡ words.entry.now) }
-{
-    let mut texts = Vec::new(alloc);
-    while let Some(word) = words.get(texts.len()) {
-        texts.push(word)?;
-    }
-    Ok(texts)
-}
-
 /// What the program's words ask for, its own name first: one request, and of `check` one for each image. Else the words aren't of a command's form or ask for help, as
 /// [`Refused::Clap`] says, or one of them is refused: the first, in the order of the command's definition.
 pub fn read_requests(alloc: Global, words: &Argv) -> Result<Series<Request>, Refused>
     ensures reading { IsReading result words.now }
     ensures within { IfOk result (λ requests. All IsWithin requests) }
 {
-    match words_of(alloc, words) {
+    match word_texts(alloc, words) {
         Ok(texts) => read_texts(alloc, &texts),
         Err(_) => Err(Refused::Word(WordFault::Memory)),
     }

@@ -2,7 +2,7 @@ use Rattle.std.proofs.Common.{◌≡◌, ◌∙◌, ◌+◌, ◌++◌, ℕ, List
 use Rattle.std.specs.Prelude.{slice_get}
 use Rattle.std.proofs.lemmas.List.{map-append, take_more}
 use Rattle.std.proofs.lemmas.Option.{slice_get_within, get_or_from_slice_get}
-use Rattle.cms_words.proofs.words.texts.Goals as goal
+use Rattle.cms_words.proofs.words.word_texts.Goals as goal
 
 abbrev texts_of : List (Bor (List ℕ)) → List (List ℕ)
 texts_of words = map (λ s. s.now) words

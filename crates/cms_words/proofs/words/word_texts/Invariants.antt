@@ -1,5 +1,5 @@
 use Rattle.std.proofs.Common.{◌≡◌, ◌-◌, length, map, take}
-use Rattle.mini_words.proofs.command_words.words_of.Given as goal
+use Rattle.cms_words.proofs.words.word_texts.Given as goal
 
 abbrev pub invariant-loop-word : goal.invariant-loop-word
 invariant-loop-word l = map (λ s. s.now) l.texts.items ≡ take (length l.texts.items) l.words
