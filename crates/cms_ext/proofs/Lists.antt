@@ -7,10 +7,10 @@ use Rattle.std.specs.Option.{option_map}
 use Rattle.std.specs.Str.{bytes_eq}
 use Rattle.std.specs.declared.alloc.AllocError.{AllocError}
 use Rattle.std.proofs.lemmas.Bool.Decides.{nat_tests}
-use Rattle.std.proofs.lemmas.List.{drop_more, length-append, length-map, map-append, map-set, set-get_or, take-map}
+use Rattle.std.proofs.lemmas.List.{length-append, length-map, map-append, map-set, set-get_or, take-map}
 use Rattle.std.proofs.lemmas.Map.Keys.{IsDistinct-cons, IsDistinct-head, IsDistinct-push, IsDistinct-tail}
 use Rattle.std.proofs.lemmas.List.Edits.{length-remove}
-use Rattle.std.proofs.lemmas.Option.{get_or_from_slice_get, slice_get-map, slice_get_read, slice_get_within}
+use Rattle.std.proofs.lemmas.Option.{get_or_from_slice_get, slice_get-map, slice_get_read}
 use Rattle.std.proofs.lemmas.Slice.Eq.{bytes_eq-Decides}
 use Rattle.cms_machine.specs.LawsObjects.{AreDistinct, IsGone}
 use Rattle.cms_machine.specs.Objects.{Object}
@@ -201,11 +201,6 @@ place_kept place old new same there =
     (sym (length-map old (λ o. o.word)) ∙ (ap length (sym same) ∙ length-map new (λ o. o.word))) there
 
 -- ---- lines
-
--- a list from the place of an item on
-pub from_place : {A : Type 0} (xs : List A) (k : ℕ) (x : A) → slice_get xs k ≡ Some x → drop k xs ≡ x ∷ drop (k + 1) xs
-from_place {A} xs k x at =
-    drop_more xs k x (slice_get_within xs k x at) ∙ ap (λ (y : A). y ∷ drop (k + 1) xs) (get_or_from_slice_get xs k x x at)
 
 -- ---- the objects of a list
 

@@ -3,9 +3,8 @@ ghost use Rattle.std.specs.Prelude.{◌≡◌, ◌≤◌, true};
 ghost use Rattle.cms_fields.specs.Moments.{is_moment};
 ghost use Rattle.cms_machine.specs.Acts.{Done};
 ghost use Rattle.cms_machine.specs.Objects.{Went};
-ghost use Rattle.cms_search.specs.Calls.{Does, IsUsable, said, spot};
+ghost use Rattle.cms_search.specs.Calls.{IsUsable, spot};
 ghost use Rattle.cms_search.specs.Machine.{typing};
-ghost use Rattle.cms_world.specs.Seen.{seen};
 ghost use Rattle.cms_ext.specs.Calls.{Meets};
 ghost use Rattle.cms_ext.specs.Extensions as spec;
 ghost use Rattle.cms_ext.specs.Replies.{MayBe, want_of};
@@ -13,7 +12,7 @@ ghost use Rattle.cms_ext.specs.Replies.{MayBe, want_of};
 use crate::extension::{ExtReply, ExtWant};
 use crate::file_read::get;
 use crate::file_write::put;
-use cms_search::{Asked, End, State, say};
+use cms_search::{Asked, End, State, say_lines};
 use cms_text::Lines;
 use cms_world::World;
 use std::alloc::Global;
@@ -27,17 +26,6 @@ pub(crate) enum Met {
     Over(i32),
     /// no turn is left for the line that it asks for
     NoTurns,
-}
-
-// Types lines.
-fn say_lines<W: World>(world: &mut W, lines: &Lines) -> Result<(), End>
-    ensures { Does (seen W.World world.old) (seen W.World world.new)
-        (typing lines.now (Done tt)) result said }
-{
-    for line in lines.as_slice() {
-        say(world, line.bytes())?;
-    }
-    Ok(())
 }
 
 // Types the lines that an extension says.

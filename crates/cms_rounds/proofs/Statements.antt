@@ -1,11 +1,10 @@
 -- What procedures do in a session: how they end and go on, and how what they want is met.
-use Rattle.std.proofs.Common.{◌≡◌, ℕ, ℤ, suc, ◌+◌, ◌≤◌, Bool, true, false, List, [], ◌∷◌, length, drop, slice_get, Option, Some, None, Result, Ok, Err, refl, ap, sym, ◌∙◌, subst}
+use Rattle.std.proofs.Common.{◌≡◌, ℕ, ℤ, suc, ◌+◌, Bool, true, false, List, [], ◌∷◌, length, Option, Some, None, Result, Ok, Err, refl, ap, sym, ◌∙◌, subst}
 use Rattle.std.specs.Prelude.{nat_le}
-use Rattle.std.proofs.lemmas.List.{drop_all}
 use Rattle.cms_fields.specs.declared.time.Moment.{Moment}
 use Rattle.cms_machine.specs.Objects.{Object}
 use Rattle.cms_machine.specs.Slots.{Slot}
-use Rattle.cms_machine.specs.Acts.{Act, Done, Out, bind, saying, typed_line}
+use Rattle.cms_machine.specs.Acts.{Act, Done, Out, bind, saying}
 use Rattle.cms_machine.proofs.Join.{broke_here}
 use Rattle.cms_line.specs.Stack.{most_lines}
 use Rattle.cms_search.specs.Asks as asks
@@ -20,7 +19,7 @@ use Rattle.cms_search.specs.declared.state.End.{End}
 use Rattle.cms_search.specs.declared.state.End.TheVariants.{Memory}
 use Rattle.cms_search.specs.declared.state.State.{State}
 use Rattle.cms_search.proofs.Acts.{comes_in, comes_does, comes_none, comes_same, comes_then, acts_done, acts_after, acts_same, acts_stop, does_stop, no_memory}
-use Rattle.cms_search.proofs.Lined.{Reached, nothing, reached_none, reached_on, reached_off, reached_to, typing_first, typing_none, typing_then}
+use Rattle.cms_search.proofs.Lined.{Reached, nothing, reached_none, reached_on, reached_off, reached_to, typing_then}
 use Rattle.cms_world.specs.Seen.{Seen}
 use Rattle.cms_ext.specs.Calls.{desk_of}
 use Rattle.cms_ext.specs.Extensions.{desk}
@@ -31,7 +30,6 @@ use Rattle.exec2_run.specs.Steps as exec
 use Rattle.exec2_run.specs.State.{Exec}
 use Rattle.exec2_run.specs.declared.want.Side.{Side}
 use Rattle.exec2_run.specs.declared.want.Want.{Want}
-use Rattle.exec2_run.proofs.Places.{from_place}
 use Rattle.cms_cards.specs.PunchedCards.{Decks}
 use Rattle.cms_rounds.specs.Commands.{is_comment}
 use Rattle.cms_rounds.specs.Decks.{leaving_decks}
@@ -88,38 +86,6 @@ does_here before now t x d d' a = record {
   edges = a.edges;
   cause = λ edge. absurd (cc);
 }
-
--- ---- lines that are typed
-
-module _ (lines : List (List ℕ)) where
-  abbrev pub AreSaid : Seen → Seen → ℕ → Type 0
-  AreSaid before now k = Reached before now (typing lines nothing) (typing (drop k lines) nothing)
-
-  pub none_said : (before : Seen) → AreSaid before before 0
-  none_said before = reached_none before (typing lines nothing)
-
-  line_due : (before mid : Seen) (k : ℕ) (line : List ℕ) → slice_get lines k ≡ Some line → AreSaid before mid k
-      → Reached before mid (typing lines nothing) (bind (saying (typed_line line)) (λ (x : Unit {0}). typing (drop (k + 1) lines) nothing))
-  line_due before mid k line is a =
-      subst (λ (t : Act (Unit {0})). Reached before mid (typing lines nothing) t)
-      (ap (λ (l : List (List ℕ)). typing l nothing) (from_place lines k line (sym is)) ∙ typing_first line (drop (k + 1) lines)) a
-
-  pub one_said : (before mid now : Seen) (k : ℕ) (line : List ℕ) (x : Unit {0}) → slice_get lines k ≡ Some line → AreSaid before mid k
-      → Does mid now (saying (typed_line line)) (Ok x) itself → AreSaid before now (k + 1)
-  one_said before mid now k line x is a d =
-      reached_on before mid now (typing lines nothing) (saying (typed_line line)) (λ (y : Unit {0}). typing (drop (k + 1) lines) nothing) x itself
-      (line_due before mid k line is a) d
-
-  pub one_off : (before mid now : Seen) (k : ℕ) (line : List ℕ) (e : End) → slice_get lines k ≡ Some line → AreSaid before mid k
-      → Does {T = Unit {0}} mid now (saying (typed_line line)) (Err e) itself → Does {T = Unit {0}} before now (typing lines nothing) (Err e) said
-  one_off before mid now k line e is a d =
-      reached_off before mid now (typing lines nothing) (saying (typed_line line)) (λ (y : Unit {0}). typing (drop (k + 1) lines) nothing) e itself said
-      (line_due before mid k line is a) d
-
-  pub all_said : (before now : Seen) (k : ℕ) (x : Unit {0}) → length lines ≤ k → AreSaid before now k → Does before now (typing lines nothing) (Ok x) said
-  all_said before now k x is a =
-      reached_to before now (typing lines nothing) x said
-      (subst (λ (t : Act (Unit {0})). Reached before now (typing lines nothing) t) (ap (λ (l : List (List ℕ)). typing l nothing) (drop_all k lines is) ∙ typing_none) a)
 
 -- ---- between two statements
 

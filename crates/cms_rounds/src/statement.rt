@@ -4,12 +4,11 @@ ghost use Rattle.cms_fields.specs.Moments.{is_moment};
 ghost use Rattle.cms_fields.specs.Offsets.{IsOffset};
 ghost use Rattle.cms_line.specs.Messages.{message_text};
 ghost use Rattle.cms_line.specs.declared.message.Message.TheVariants.{M085};
-ghost use Rattle.cms_machine.specs.Acts.{Done, saying, typed_line};
-ghost use Rattle.cms_search.specs.Calls.{spot, spot_with, Acts, Does, IsUsable, itself, said};
+ghost use Rattle.cms_machine.specs.Acts.{saying, typed_line};
+ghost use Rattle.cms_search.specs.Calls.{spot, spot_with, Acts, Does, IsUsable, itself};
 ghost use Rattle.cms_exec.specs.Exec.{stopped_code};
 ghost use Rattle.cms_ext.specs.Objects.{objects_of};
 ghost use Rattle.cms_files.specs.StackedLines.{StacksSome};
-ghost use Rattle.cms_search.specs.Machine.{typing};
 ghost use Rattle.cms_text.specs.Numbers.{decimal_of};
 ghost use Rattle.cms_world.specs.Seen.{seen};
 ghost use Rattle.cms_rounds.specs.Calls as tree;
@@ -23,7 +22,9 @@ use crate::subcommand::send;
 use cms_ext::{ExtList, Extension};
 use cms_files::{StackEnd, has_room, stack_lines};
 use cms_line::{Line, Lines, Message, Word};
-use cms_search::{Asked, Course, End, PlaceEvent, State, say, say_message, say_ready, turn};
+use cms_search::{
+    Asked, Course, End, PlaceEvent, State, say_lines, say_message, say_ready, turn,
+};
 use cms_text::decimal;
 use cms_world::World;
 use exec2_run::{Exec, Side, Want};
@@ -236,17 +237,6 @@ pub fn answer<W: World>(
 }
 
 // ---- what a statement wants
-
-// Types lines.
-fn say_lines<W: World>(world: &mut W, lines: &Lines) -> Result<(), End>
-    ensures { Does (seen W.World world.old) (seen W.World world.new)
-        (typing lines.now (Done tt)) result said }
-{
-    for line in lines.as_slice() {
-        say(world, line.bytes())?;
-    }
-    Ok(())
-}
 
 // Lines are typed.
 fn type_lines<W: World>(

@@ -1,6 +1,8 @@
 -- Lines that are typed one after another, by calls of the console alone.
-use Rattle.std.proofs.Common.{◌≡◌, ◌≤◌, ℕ, List, [], ◌∷◌, ◌++◌, Result, Ok, Err, refl, sym, ap, ◌∙◌, subst, arith}
+use Rattle.std.proofs.Common.{◌≡◌, ◌+◌, ◌≤◌, ℕ, List, [], ◌∷◌, ◌++◌, drop, length, slice_get, Some, Result, Ok, Err, refl, sym, ap, ◌∙◌, subst, arith}
 use Rattle.std.specs.Prelude.{IfOk, pos}
+use Rattle.std.proofs.lemmas.List.{drop_all, drop_more}
+use Rattle.std.proofs.lemmas.Option.{get_or_from_slice_get, slice_get_within}
 use Rattle.cms_journal.specs.Told.{Idle}
 use Rattle.cms_journal.proofs.Pieces.{idle_same, idle_then}
 use Rattle.cms_machine.specs.Acts.{Act, Done, Out, bind, saying, typed_line}
@@ -125,3 +127,41 @@ acts_typed old new lines (Err e) does went same =
     acts_same old new (λ units. typing lines (Done (Went (machine_of old.state units) (pos 0)))) (λ units. bind (typing lines nothing) (next units)) (Err e)
     (course_of new.state) (λ units h. typing_then lines (Done (Went (machine_of old.state units) (pos 0))))
     (does_stop {T = declared.Course} old new (typing lines nothing) next e said (course_of new.state) does same)
+
+-- ---- lines of a list
+
+-- a list from the place of an item on
+from_place : {A : Type 0} (xs : List A) (k : ℕ) (x : A) → slice_get xs k ≡ Some x → drop k xs ≡ x ∷ drop (k + 1) xs
+from_place {A} xs k x at =
+    drop_more xs k x (slice_get_within xs k x at) ∙ ap (λ (y : A). y ∷ drop (k + 1) xs) (get_or_from_slice_get xs k x x at)
+
+module _ (lines : List (List ℕ)) where
+  abbrev pub AreSaid : Seen → Seen → ℕ → Type 0
+  AreSaid before now k = Reached before now (typing lines nothing) (typing (drop k lines) nothing)
+
+  pub none_said : (before : Seen) → AreSaid before before 0
+  none_said before = reached_none before (typing lines nothing)
+
+  line_due : (before mid : Seen) (k : ℕ) (line : List ℕ) → slice_get lines k ≡ Some line → AreSaid before mid k
+      → Reached before mid (typing lines nothing) (bind (saying (typed_line line)) (λ (x : Unit {0}). typing (drop (k + 1) lines) nothing))
+  line_due before mid k line is a =
+      subst (λ (t : Act (Unit {0})). Reached before mid (typing lines nothing) t)
+      (ap (λ (l : List (List ℕ)). typing l nothing) (from_place lines k line is) ∙ typing_first line (drop (k + 1) lines)) a
+
+  pub one_said : (before mid now : Seen) (k : ℕ) (line : List ℕ) (x : Unit {0}) → slice_get lines k ≡ Some line → AreSaid before mid k
+      → Does mid now (saying (typed_line line)) (Ok x) itself → AreSaid before now (k + 1)
+  one_said before mid now k line x is a d =
+      reached_on before mid now (typing lines nothing) (saying (typed_line line)) (λ (y : Unit {0}). typing (drop (k + 1) lines) nothing) x itself
+      (line_due before mid k line is a) d
+
+  pub one_off : (before mid now : Seen) (k : ℕ) (line : List ℕ) (e : End) → slice_get lines k ≡ Some line → AreSaid before mid k
+      → Does {T = Unit {0}} mid now (saying (typed_line line)) (Err e) itself → Does {T = Unit {0}} before now (typing lines nothing) (Err e) said
+  one_off before mid now k line e is a d =
+      reached_off before mid now (typing lines nothing) (saying (typed_line line)) (λ (y : Unit {0}). typing (drop (k + 1) lines) nothing) e itself said
+      (line_due before mid k line is a) d
+
+  pub all_said : (before now : Seen) (k : ℕ) (x : Unit {0}) → length lines ≤ k → AreSaid before now k → Does before now (typing lines nothing) (Ok x) said
+  all_said before now k x is a =
+      reached_to before now (typing lines nothing) x said
+      (subst (λ (t : Act (Unit {0})). Reached before now (typing lines nothing) t)
+      (ap (λ (l : List (List ℕ)). typing l nothing) (drop_all k lines is) ∙ typing_none) a)

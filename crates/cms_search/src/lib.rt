@@ -32,7 +32,7 @@ pub use device_step::{
 };
 pub use fault::SearchFault;
 pub use file_write::{FileWrite, update_file};
-pub use output::{refuse, say, say_message, say_ready};
+pub use output::{refuse, say, say_lines, say_message, say_ready};
 pub use place_event::PlaceEvent;
 pub use places::Places;
 pub use readings::KeptReading;

@@ -1,15 +1,16 @@
 // Lines, messages, refusals and the ready line.
 ghost use Rattle.std.specs.Prelude.{◌≡◌, ◌<◌, ◌+◌, ◌/◌, ◌%◌, IfOk};
-ghost use Rattle.cms_machine.specs.Acts.{saying, typed_line};
+ghost use Rattle.cms_machine.specs.Acts.{Done, saying, typed_line};
 ghost use Rattle.cms_line.specs.Messages.{message_text};
 ghost use Rattle.cms_search.specs.Ready.{ready_line, ready_with};
 ghost use Rattle.cms_search.specs.Calls.{Does, itself, said};
+ghost use Rattle.cms_search.specs.Machine.{typing};
 ghost use Rattle.cms_world.specs.Seen.{seen};
 ghost use Rattle.cms_search.specs.declared.state.Course.TheVariants.{Went};
 
 use crate::state::{Course, End};
 use cms_line::{Message, type_line, write_message};
-use cms_text::ZERO;
+use cms_text::{Lines, ZERO};
 use cms_world::World;
 use std::alloc::{AllocError, Global};
 
@@ -33,6 +34,17 @@ pub fn say<W: World>(world: &mut W, line: &[u8]) -> Result<(), End>
         Ok(()) => Ok(()),
         Err(_) => Err(End::Edge),
     }
+}
+
+/// Types lines.
+pub fn say_lines<W: World>(world: &mut W, lines: &Lines) -> Result<(), End>
+    ensures { Does (seen W.World world.old) (seen W.World world.new)
+        (typing lines.now (Done tt)) result said }
+{
+    for line in lines.as_slice() {
+        say(world, line.bytes())?;
+    }
+    Ok(())
 }
 
 // The text of a message, which goes.

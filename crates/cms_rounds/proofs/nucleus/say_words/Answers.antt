@@ -1,6 +1,6 @@
 use Rattle.std.proofs.lemmas.Result.{err_from_is_err_and}
 use Rattle.cms_rounds.proofs.NucleusCalls.{words_typed}
-use Rattle.cms_rounds.proofs.Statements.{all_said, none_said, one_off, one_said}
+use Rattle.cms_search.proofs.Lined.{all_said, none_said, one_off, one_said}
 use Rattle.cms_rounds.proofs.nucleus.say_words.Goals as goal
 
 pub loop-place-init : goal.loop-place-init

@@ -1,6 +1,6 @@
 use Rattle.cms_world.specs.Seen.{seen}
 use Rattle.cms_ext.specs.Objects.{objects_of, words_of}
-use Rattle.cms_rounds.proofs.Statements.{AreSaid}
+use Rattle.cms_search.proofs.Lined.{AreSaid}
 use Rattle.cms_rounds.proofs.nucleus.say_words.Given as goal
 
 abbrev pub invariant-loop-place : goal.invariant-loop-place

@@ -1,8 +1,8 @@
 use Rattle.std.proofs.Common.{◌≡◌, ◌∙◌, ℕ, List, Some, slice_get, sym, ap}
 use Rattle.std.proofs.lemmas.Option.{slice_get-get_or}
 use Rattle.std.proofs.lemmas.Result.{err_from_is_err_and}
-use Rattle.cms_ext.proofs.Meets.{all_said, one_off, one_said}
-use Rattle.cms_ext.proofs.wants.say_lines.Goals as goal
+use Rattle.cms_search.proofs.Lined.{all_said, one_off, one_said}
+use Rattle.cms_search.proofs.output.say_lines.Goals as goal
 
 pub returns-in_err-say : goal.returns-in_err-say
 returns-in_err-say g c =
