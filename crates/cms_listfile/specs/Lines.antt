@@ -1,12 +1,12 @@
 -- The lines of LISTFILE: a column for each thing that is told of a file.
-use Rattle.std.specs.Prelude.{ℕ, ◌+◌, ◌/◌, ◌%◌, List, [], ◌∷◌, ◌++◌, codes, length, slice_get, take, Option, Some, None}
+use Rattle.std.specs.Prelude.{ℕ, ◌+◌, ◌/◌, List, [], ◌∷◌, ◌++◌, codes, length, slice_get, take, Option, Some, None}
 use Rattle.std.specs.List.{flat_map}
 use Rattle.std.specs.Option.{option_map_or}
 use Rattle.cms_names.specs.declared.name.Format.{Format}
 use Rattle.cms_names.specs.declared.name.Format.TheVariants as format
 use Rattle.cms_fields.specs.Numbers.{up}
 use Rattle.cms_fields.specs.declared.time.Stamp.{Stamp}
-use Rattle.cms_text.specs.Numbers.{decimal_of}
+use Rattle.cms_text.specs.Numbers.{decimal_of, two_digits}
 use Rattle.cms_text.specs.Texts.{coded, without_trailing_blanks}
 use Rattle.cms_model.specs.Minidisks.{File, Minidisk}
 use Rattle.cms_model.specs.Sizes.{stored_size}
@@ -81,10 +81,6 @@ header last = line_to last (header_columns (years_of last))
 abbrev pub format_text : Format → List ℕ
 format_text format.F = coded (codes "F")
 format_text format.V = coded (codes "V")
-
--- the last two decimal digits
-abbrev pub two_digits : ℕ → List ℕ
-two_digits n = (0xF0 + n / 10 % 10) ∷ (0xF0 + n % 10) ∷ []
 
 -- yy or yyyy
 abbrev pub year_text : Years → ℕ → List ℕ

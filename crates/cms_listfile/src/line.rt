@@ -1,5 +1,5 @@
 // The lines of files, and their header.
-ghost use Rattle.std.specs.Prelude.{◌≡◌, ◌≤◌, ◌+◌, ◌/◌, ◌%◌, ◌++◌, ◌∷◌, IfOk, OnOk, length, take};
+ghost use Rattle.std.specs.Prelude.{◌≡◌, ◌≤◌, ◌+◌, ◌++◌, ◌∷◌, IfOk, OnOk, length, take};
 ghost use Rattle.cms_text.specs.Limits.{longest_text};
 ghost use Rattle.cms_text.specs.Numbers.{decimal_of};
 ghost use Rattle.cms_search.specs.Texts.{left_in, right_in, spaced};
@@ -14,7 +14,7 @@ use cms_fields::Stamp;
 use cms_names::Format;
 use cms_operands::coded;
 use cms_search::{add_left, add_right, first_column, letter_text};
-use cms_text::{BLANK, COLON, STROKE, ZERO, decimal, without_trailing_blanks};
+use cms_text::{BLANK, COLON, STROKE, decimal, ones, tens, without_trailing_blanks};
 use std::alloc::{AllocError, Global};
 
 /// A file as it is listed.
@@ -25,19 +25,6 @@ pub struct ListedFile {
     /// the volume id of its disk, in EBCDIC
     pub volid: [u8; 6],
     pub info: FileInfo,
-}
-
-// The tens of a number, and its ones.
-fn tens(number: u16) -> u8
-    ensures { result ≡ 0xF0 + number / 10 % 10 }
-{
-    ZERO + (number / 10 % 10) as u8
-}
-
-fn ones(number: u16) -> u8
-    ensures { result ≡ 0xF0 + number % 10 }
-{
-    ZERO + (number % 10) as u8
 }
 
 // mm/dd/yyyy hh:mm:ss

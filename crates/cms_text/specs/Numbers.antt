@@ -1,5 +1,5 @@
 -- Decimal numbers in EBCDIC, as they are read and written.
-use Rattle.std.specs.Prelude.{ℕ, ◌+◌, ◌-◌, ◌*◌, ◌^◌, ◌==◌, nat_le, nat_lt, Bool, ◌&&◌, if◌then◌else◌, [], ◌∷◌, length, fold, Option, Some, None, ℤ, pos, negsuc, neg_ℤ}
+use Rattle.std.specs.Prelude.{ℕ, ◌+◌, ◌-◌, ◌*◌, ◌/◌, ◌%◌, ◌^◌, ◌==◌, nat_le, nat_lt, Bool, ◌&&◌, if◌then◌else◌, [], ◌∷◌, length, fold, Option, Some, None, ℤ, pos, negsuc, neg_ℤ}
 use Rattle.std.specs.List.{list_all}
 use Rattle.std.specs.Option.{option_and_then}
 use Rattle.std.specs.Fmt.{signed_decimal}
@@ -48,3 +48,7 @@ written z = ebcdic (signed_decimal z)
 -- a number from 0 without leading zeros
 unfoldable pub decimal_of : ℕ → Text
 decimal_of n = written (pos n)
+
+-- the last two decimal digits
+abbrev pub two_digits : ℕ → Text
+two_digits n = (0xF0 + n / 10 % 10) ∷ (0xF0 + n % 10) ∷ []

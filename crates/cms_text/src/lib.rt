@@ -8,7 +8,7 @@ mod text;
 mod words;
 
 pub use list::Series;
-pub use numbers::{decimal, magnitude, number, written};
+pub use numbers::{decimal, magnitude, number, ones, tens, written};
 pub use text::{LONGEST_TEXT, Line, ShortText, Word};
 pub use words::{
     BLANK, COLON, STROKE, ZERO, coded, ebcdic, first_word, is_keyword, without_leading_blanks,

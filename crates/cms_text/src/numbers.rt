@@ -1,5 +1,5 @@
 // Decimal numbers in EBCDIC, as they are read and written.
-ghost use Rattle.std.specs.Prelude.{◌≡◌, ◌≤◌, ◌<◌, ◌^◌, IfOk, IfSome};
+ghost use Rattle.std.specs.Prelude.{◌≡◌, ◌≤◌, ◌<◌, ◌+◌, ◌/◌, ◌%◌, ◌^◌, IfOk, IfSome};
 ghost use Rattle.cms_text.specs.Numbers as spec;
 
 use crate::text::Word;
@@ -86,4 +86,18 @@ pub fn decimal(alloc: Global, number: u32) -> Result<Word, AllocError>
     ensures { IfOk result (λ word. word ≡ spec.decimal_of number) }
 {
     written(alloc, i64::from(number))
+}
+
+/// The digit of the tens of a number.
+pub fn tens(number: u16) -> u8
+    ensures { result ≡ 0xF0 + number / 10 % 10 }
+{
+    ZERO + (number / 10 % 10) as u8
+}
+
+/// The last digit of a number.
+pub fn ones(number: u16) -> u8
+    ensures { result ≡ 0xF0 + number % 10 }
+{
+    ZERO + (number % 10) as u8
 }

@@ -3,7 +3,7 @@ use Rattle.std.specs.Prelude.{ℕ, ◌+◌, ◌-◌, ◌/◌, ◌%◌, Bool, tru
 use Rattle.cms_fields.specs.declared.time.Stamp.{Stamp}
 use Rattle.cms_names.specs.declared.name.Format.{Format}
 use Rattle.cms_names.specs.declared.name.Format.TheVariants.{F, V}
-use Rattle.cms_text.specs.Numbers.{decimal_of}
+use Rattle.cms_text.specs.Numbers.{decimal_of, two_digits}
 use Rattle.cms_text.specs.Texts.{coded, without_trailing_blanks}
 use Rattle.cms_machine.specs.Acts.{typed_line}
 use Rattle.cms_held.specs.HeldVolumes.{HeldVolume}
@@ -19,10 +19,6 @@ use Rattle.mini_work.specs.Output.{name_text}
 abbrev pub format_text : Format → List ℕ
 format_text F = coded (codes "F")
 format_text V = coded (codes "V")
-
--- the last two digits of a number
-abbrev pub two_digits : ℕ → List ℕ
-two_digits n = (0xF0 + n / 10 % 10) ∷ (0xF0 + n % 10) ∷ []
 
 -- YYYY-MM-DD HH:MM:SS
 abbrev pub stamp_text : Stamp → List ℕ

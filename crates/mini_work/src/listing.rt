@@ -1,5 +1,5 @@
 // Files of an image are listed, and what the image is.
-ghost use Rattle.std.specs.Prelude.{◌≡◌, ◌+◌, ◌/◌, ◌%◌, ◌++◌, ℕ, map, IfOk};
+ghost use Rattle.std.specs.Prelude.{◌≡◌, ◌++◌, ℕ, map, IfOk};
 ghost use Rattle.cms_journal.specs.declared.event.Access.TheVariants.{ReadOnly};
 ghost use Rattle.cms_edf.specs.FilesTold.{infos_in};
 ghost use Rattle.cms_machine.specs.Acts.{typed_line};
@@ -25,7 +25,7 @@ use cms_edf::Held;
 use cms_fields::Stamp;
 use cms_names::Format;
 use cms_search::{add_left, add_right, first_column};
-use cms_text::{BLANK, COLON, ZERO, coded, decimal, without_trailing_blanks};
+use cms_text::{BLANK, COLON, coded, decimal, ones, tens, without_trailing_blanks};
 use cms_world::{Access, World};
 use mini_host::Host;
 use mini_words::{Image, NamePattern};
@@ -138,19 +138,6 @@ fn format_text(format: Format) -> [u8; 1]
         Format::F => coded(b"F"),
         Format::V => coded(b"V"),
     }
-}
-
-// The tens of a number, and its ones.
-fn tens(number: u16) -> u8
-    ensures { result ≡ 0xF0 + number / 10 % 10 }
-{
-    ZERO + (number / 10 % 10) as u8
-}
-
-fn ones(number: u16) -> u8
-    ensures { result ≡ 0xF0 + number % 10 }
-{
-    ZERO + (number % 10) as u8
 }
 
 // YYYY-MM-DD HH:MM:SS
