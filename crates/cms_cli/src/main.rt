@@ -9,7 +9,7 @@ mod help;
 
 use cms_edit::Editor;
 use cms_ext::{ExtList, Extension, Tally};
-use cms_host::{FileWorld, Host};
+use cms_host::{FOLDER, FileWorld, Host, hold_streams};
 use cms_names::Part;
 use cms_session::{Status, WordFault, run_with};
 use cms_text::coded;
@@ -17,12 +17,9 @@ use cms_world::Argv;
 use failures::{tell_ending, tell_world};
 use help::{HELP, VERSION};
 use std::alloc::{AllocError, Global};
-use std::fs::File;
 use std::io::{ErrorKind, IsTerminal};
 use std::process::ExitCode;
 use std::{env, io};
-
-const FOLDER: &str = "/";
 
 /// The word of the first extension that the program brings.
 const TALLY: &[u8; 5] = b"TALLY";
@@ -54,16 +51,6 @@ struct Ending {
     status: Status,
     /// all that was typed could be written
     written: bool,
-}
-
-/// Opens a folder three times, so that no image gets the place of a standard stream that isn't open: it would be read as the script, or
-/// what is typed would be written to it. A folder gives nothing and takes nothing.
-fn hold_streams(rt: &HostRuntime) -> io::Result<[File; 3]> {
-    Ok([
-        File::open(rt, FOLDER)?,
-        File::open(rt, FOLDER)?,
-        File::open(rt, FOLDER)?,
-    ])
 }
 
 /// A session with TALLY and EDIT under their words.

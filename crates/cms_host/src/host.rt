@@ -20,6 +20,19 @@ const TRIES: u32 = 1_000_000;
 /// What Linux says where a file system has no room for locks, or knows none.
 const NO_LOCKS: i32 = 37;
 
+/// A folder that every system has.
+pub const FOLDER: &str = "/";
+
+/// Opens a folder three times, so that no image and no host file gets the place of a standard stream that isn't open: it would be read as
+/// the script, or what is typed would be written to it. A folder gives nothing and takes nothing.
+pub fn hold_streams<R: Files<File = File>>(rt: &R) -> io::Result<[File; 3]> {
+    Ok([
+        File::open(rt, FOLDER)?,
+        File::open(rt, FOLDER)?,
+        File::open(rt, FOLDER)?,
+    ])
+}
+
 // Reads once, again where a signal interrupted it: no bytes are the end.
 fn read_some<I: Read>(input: &mut I, into: &mut [u8]) -> Option<usize>
     ensures { IfSome result (λ n. n ≤ length into.old) }

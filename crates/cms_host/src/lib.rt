@@ -12,6 +12,6 @@ mod system;
 mod trouble;
 
 pub use file_world::FileWorld;
-pub use host::Host;
+pub use host::{FOLDER, Host, hold_streams};
 pub use system::{Deed, Lock, Sharing, System, Warning};
 pub use trouble::Trouble;

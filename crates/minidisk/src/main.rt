@@ -6,19 +6,16 @@ ghost use Rattle.mini_words.specs.Ranges.{IsWithin};
 
 mod exit;
 
-use cms_host::{FileWorld, Host, Trouble};
+use cms_host::{FOLDER, FileWorld, Host, Trouble, hold_streams};
 use cms_text::Series;
 use cms_world::Argv;
 use exit::Exit;
 use mini_files::HostFiles;
 use mini_words::{Refused, Request, WordFault, read_requests};
 use mini_work::{Status, work};
-use std::fs::File;
 use std::io::{ErrorKind, IsTerminal};
 use std::process::ExitCode;
 use std::{env, io};
-
-const FOLDER: &str = "/";
 
 /// The words with which the program was called.
 fn arguments(rt: &HostRuntime) -> io::Result<Argv> {
@@ -27,15 +24,6 @@ fn arguments(rt: &HostRuntime) -> io::Result<Argv> {
         words.push(word.as_str())?;
     }
     Ok(words)
-}
-
-/// Opens a folder three times, so that no image and no host file gets the place of a standard stream that isn't open.
-fn hold_streams(rt: &HostRuntime) -> io::Result<[File; 3]> {
-    Ok([
-        File::open(rt, FOLDER)?,
-        File::open(rt, FOLDER)?,
-        File::open(rt, FOLDER)?,
-    ])
 }
 
 /// Says why an image failed. One that is in use is refused.
