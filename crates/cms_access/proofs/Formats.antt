@@ -10,8 +10,7 @@ use Rattle.cms_journal.specs.Journal.{Journal}
 use Rattle.cms_line.specs.Messages.{message_text}
 use Rattle.cms_line.specs.declared.message.Message.TheVariants.{M037, M069, M113, M115}
 use Rattle.cms_line.specs.declared.token.Token.{Token}
-use Rattle.cms_operands.specs.Operands.{device, ended, letter, letter_in, needed, operands_of, or_refused}
-use Rattle.cms_operands.specs.declared.refusal.Refusal.TheVariants.{BadMode}
+use Rattle.cms_operands.specs.Operands.{device, ended, letter, needed, operands_of}
 use Rattle.cms_world.specs.Seen.{Seen}
 use Rattle.cms_disk.specs.declared.unit.UnitInfo.{UnitInfo}
 use Rattle.cms_search.specs.Calls.{Acts, Does, Meaning, Spot, course_of, holds, machine_of, said, spot_at}
@@ -32,23 +31,15 @@ use Rattle.cms_search.proofs.Acts.{acts_same}
 use Rattle.cms_search.proofs.IdleEvents.{holds_some}
 use Rattle.cms_search.proofs.Released.{get_map, letter_told, unit_told, vdev_is}
 use Rattle.cms_search.proofs.StateCalls.{acts_refused}
+use Rattle.cms_search.proofs.Letters.{letter_read as letter_below}
 use Rattle.cms_access.specs.EmptyVolume.{is_marked}
 use Rattle.cms_access.specs.Format.{asking_relabel, format_disk, format_line, format_operands, format_unit, formatting, in_place, in_slot, on_device, relabel, relabels, size_of}
 use Rattle.cms_access.specs.declared.format.FormatLine.{FormatLine}
 use Rattle.cms_access.specs.declared.format.Formatting.{Formatting}
-use Rattle.cms_access.proofs.Lettered.{word_below}
 use Rattle.cms_access.proofs.Lines.{bind_ok, then_ok}
 use Rattle.cms_access.proofs.Releases.{no_place, some_place}
 
 -- ---- the line's letter
-
-letter_below : (place : ℕ) (text : List ℕ) (n : ℕ) → letter place text ≡ Ok n → n < 26
-unfolding letter
-letter_below place text n is = go (letter_in text) refl is
-  where
-    go : (x : Option ℕ) → letter_in text ≡ x → or_refused x (BadMode place) ≡ Ok n → n < 26
-    go None at is = absurd (cc is)
-    go (Some m) at is = word_below text n (at ∙ ap (λ (k : ℕ). Some k) (cc is))
 
 pub operands_below : (operands : List Token) (line : FormatLine) → format_operands operands ≡ Ok line → line.letter < 26
 unfolding format_operands

@@ -1,9 +1,9 @@
 -- The letter that an operand says is one of the 26.
-use Rattle.std.proofs.Common.{◌≡◌, ◌∙◌, ℕ, ◌+◌, ◌-◌, ◌<◌, ◌≤◌, List, [], ◌∷◌, Bool, true, false, Option, Some, None, Result, Ok, Err, refl, subst, arith}
+use Rattle.std.proofs.Common.{◌≡◌, ◌∙◌, ℕ, ◌<◌, ◌≤◌, List, [], ◌∷◌, Bool, true, false, Option, Some, None, Result, Ok, Err, refl, subst, arith}
 use Rattle.std.specs.Prelude.{⊤, cond, ◌==◌, ◌&&◌, nat_le, option_map}
 use Rattle.std.proofs.lemmas.Bool.{leb-true}
 use Rattle.cms_fields.specs.Steps.{◌>>=◌, ◌>>◌}
-use Rattle.cms_names.specs.Modes.{letter_of, mode_number_of, mode_word_of, numbered_mode, short_mode_of}
+use Rattle.cms_names.specs.Modes.{letter_of, short_mode_of}
 use Rattle.cms_names.specs.Names.{is_between}
 use Rattle.cms_names.specs.declared.mode.ModeWord.TheVariants.{Any, Same, Letter}
 use Rattle.cms_line.specs.declared.token.Token.{Token}
@@ -14,6 +14,7 @@ use Rattle.cms_operands.specs.declared.options.ChosenOption.{ChosenOption}
 use Rattle.cms_operands.specs.declared.operand.AccessMode.{AccessMode}
 use Rattle.cms_operands.specs.declared.refusal.Refusal.{Refusal}
 use Rattle.cms_operands.specs.declared.refusal.Refusal.TheVariants.{BadMode}
+use Rattle.cms_search.proofs.Letters.{letter_within as letter_below, letter_in_within as word_below}
 use Rattle.cms_access.specs.Access.{access_line, access_operands}
 use Rattle.cms_access.specs.declared.access.AccessLine.{AccessLine}
 
@@ -26,13 +27,6 @@ one_of low high v c n rest small other is = cases (nat_le low c) (nat_le c high)
     cases true false at is = other is
     cases false b at is = other is
 
-letter_below : (c n : ℕ) → letter_of c ≡ Some n → n < 26
-unfolding letter_of
-letter_below c n is =
-    one_of 0xC1 0xC9 (c - 0xC1) c n (cond (is_between 0xD1 0xD9 c) (Some (9 + (c - 0xD1))) (cond (is_between 0xE2 0xE9 c) (Some (18 + (c - 0xE2))) None)) (λ less. omega (arith, less))
-    (λ j. one_of 0xD1 0xD9 (9 + (c - 0xD1)) c n (cond (is_between 0xE2 0xE9 c) (Some (18 + (c - 0xE2))) None) (λ less. omega (arith, less))
-    (λ s. one_of 0xE2 0xE9 (18 + (c - 0xE2)) c n None (λ less. omega (arith, less)) (λ none. absurd (cc none)) s) j) is
-
 short_below : (c n : ℕ) → letter_of_word (short_mode_of c) ≡ Some n → n < 26
 unfolding short_mode_of
 short_below c n is = cases (c == 0x5C) (c == 0x7E) (letter_of c) refl is
@@ -42,18 +36,6 @@ short_below c n is = cases (c == 0x5C) (c == 0x7E) (letter_of c) refl is
     cases false true x at is = absurd (cc is)
     cases false false None at is = absurd (cc is)
     cases false false (Some l) at is = letter_below c n (at ∙ is)
-
-pub word_below : (text : List ℕ) (n : ℕ) → letter_in text ≡ Some n → n < 26
-unfolding mode_word_of
-word_below [] n is = absurd (cc is)
-word_below (c ∷ []) n is = short_below c n is
-word_below (c ∷ d ∷ []) n is = cases (letter_of c) (mode_number_of d) is
-  where
-    cases : (x y : Option ℕ) → letter_of_word (numbered_mode x y) ≡ Some n → n < 26
-    cases None y is = absurd (cc is)
-    cases (Some x) None is = absurd (cc is)
-    cases (Some x) (Some y) is = absurd (cc is)
-word_below (c ∷ d ∷ e ∷ more) n is = absurd (cc is)
 
 mode_below : (text : List ℕ) (mode : AccessMode) → access_mode_in text ≡ Some mode → mode.letter < 26
 unfolding access_mode_in

@@ -58,7 +58,7 @@ use Rattle.cms_files.specs.Told.{info_named}
 use Rattle.cms_files.specs.Unfound.{RefusesSearch}
 use Rattle.cms_files.specs.declared.identifier.FileInput.{FileInput}
 use Rattle.cms_files.proofs.FileTold.{IsTold, file_told}
-use Rattle.cms_files.proofs.Found.{found_held}
+use Rattle.cms_files.proofs.Found.{found_held, memory_or_other}
 use Rattle.cms_files.proofs.OpenedFiles.{seat_with}
 use Rattle.cms_files.proofs.WholeReads.{ReadsAll, comes_read, seen_now, there_is}
 use Rattle.cms_decks.specs.Dumps.{file_with}
@@ -88,14 +88,6 @@ refused_so old new name t message code r x does went same is tree =
     rw is
     (acts_same old new t (λ units. refused (refusal_tree old.state message code units)) (with_refused r) (fetched_of new.state name) tree
     (refuses old new name (refusal_tree old.state message code) r new.state (joins.refused old new message code r does went same)))
-
-memory_or_other : (fault : SearchFault) → (fault ≡ why.Memory) ⊎ (fault ≡ why.Memory → ⊥)
-memory_or_other (why.NoUnit vdev) = inr (λ is. cc is)
-memory_or_other (why.NotAccessed n) = inr (λ is. cc is)
-memory_or_other (why.ReadOnly n) = inr (λ is. cc is)
-memory_or_other why.NotFound = inr (λ is. cc is)
-memory_or_other (why.Volume fault) = inr (λ is. cc is)
-memory_or_other why.Memory = inl refl
 
 -- a search that isn't answered refuses it
 pub search_off : (old new : Spot) (name : Name) (t : List Slot → Act Fetched) (words : List Token) (place : ℕ) (fault : SearchFault) (r : Result declared.Course End)

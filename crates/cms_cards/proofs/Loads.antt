@@ -1,10 +1,9 @@
 -- A file that is written from the first deck.
-use Rattle.std.proofs.Common.{◌≡◌, ◌∙◌, ◌+◌, ◌-◌, ◌<◌, ◌≤◌, ◌++◌, get_or, length, take, true, false, Bool, ℕ, List, [], ◌∷◌, map, pos, Option, Some, None, Result, Ok, Err, refl, sym, ap, subst, arith}
-use Rattle.std.specs.Prelude.{◌==◌, ◌&&◌, IfOk, IfSome, cond, nat_le}
+use Rattle.std.proofs.Common.{◌≡◌, ◌∙◌, ◌+◌, ◌<◌, ◌≤◌, ◌++◌, get_or, length, take, true, false, Bool, ℕ, List, [], ◌∷◌, map, pos, Option, Some, None, Result, Ok, Err, refl, sym, ap, subst}
+use Rattle.std.specs.Prelude.{◌==◌, IfOk, IfSome, cond}
 use Rattle.std.specs.Option.{ok_or, option_map}
 use Rattle.std.specs.declared.alloc.AllocError.{AllocError}
 use Rattle.std.proofs.lemmas.List.{map-append, take_more}
-use Rattle.std.proofs.lemmas.Bool.{leb-true}
 use Rattle.cms_names.specs.Modes.{letter_of, mode_number_of, mode_word_of, numbered_mode, short_mode_of}
 use Rattle.cms_names.specs.declared.mode.ModeWord.TheVariants as mode
 use Rattle.cms_names.specs.declared.name.Format.TheVariants.{F}
@@ -47,6 +46,7 @@ use Rattle.cms_files.specs.Updates.{last_update}
 use Rattle.cms_files.proofs.FileTold.{IsTold, file_told}
 use Rattle.cms_files.proofs.LastUpdates.{acts_changed, last_tree}
 use Rattle.cms_decks.specs.Dumps.{load}
+use Rattle.cms_files.proofs.OutputModes.{number_below}
 use Rattle.cms_cards.specs.Calls.{number_told}
 use Rattle.cms_cards.specs.Fetch.{not_taken}
 use Rattle.cms_cards.specs.FirstDeck.{cards_file, number_for, on_deck, on_dump, read_file, write_cards, write_dump}
@@ -58,15 +58,6 @@ use Rattle.cms_cards.specs.declared.line.ReadTarget.{ReadTarget}
 
 abbrev pub HasMode : Option ℕ → Type 0
 HasMode number = IfSome number (λ k. k ≤ 6)
-
-number_below : (c k : ℕ) → mode_number_of c ≡ Some k → k ≤ 6
-unfolding mode_number_of
-number_below c k is = cases (nat_le 0xF0 c) (nat_le c 0xF6) refl is
-  where
-    cases : (a b : Bool) → nat_le c 0xF6 ≡ b → cond (a && b) (Some (c - 0xF0)) None ≡ Some k → k ≤ 6
-    cases true true at is = let same : c - 0xF0 ≡ k = cc is in let below = leb-true c 0xF6 at in omega (arith, same, below)
-    cases true false at is = absurd (cc is)
-    cases false b at is = absurd (cc is)
 
 short_written : (c : ℕ) (out : WriteMode) → writing_of (short_mode_of c) ≡ Some out → HasMode out.number
 unfolding short_mode_of

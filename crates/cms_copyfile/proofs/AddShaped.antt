@@ -1,5 +1,5 @@
 -- The copies that are added to a file have the shape that was measured, behind its own records.
-use Rattle.std.proofs.Common.{◌≡◌, ◌∙◌, ◌+◌, ◌*◌, ◌≤◌, ◌++◌, ℕ, true, List, Option, Some, Result, Ok, Err, length, max, refl, sym, ap, subst, slice_get, length-append, mul-pos, arith}
+use Rattle.std.proofs.Common.{◌≡◌, ◌∙◌, ◌+◌, ◌*◌, ◌≤◌, ◌++◌, ℕ, true, List, Option, Some, Result, Ok, Err, length, max, refl, sym, ap, subst, slice_get, length-append, arith}
 use Rattle.std.proofs.Math.Nat.{mul-add}
 use Rattle.std.specs.Prelude.{All}
 use Rattle.std.specs.Option.{option_and_then}
@@ -31,6 +31,7 @@ use Rattle.cms_search.specs.declared.fault.SearchFault.{SearchFault}
 use Rattle.cms_search.proofs.LetterDisks.{holds_shows}
 use Rattle.cms_files.specs.Files.{UnitFile, file_on}
 use Rattle.cms_files.specs.Told.{IsInfo, info_named, stored_named}
+use Rattle.cms_edf.proofs.DraftPlanned.{some_bytes}
 use Rattle.cms_copyfile.specs.Copyfile.{change_with, there_is}
 use Rattle.cms_copyfile.specs.FileCopies.{IsCopying, copied_to, form_in, plan_for}
 use Rattle.cms_copyfile.specs.Measures.{IsMeasure, length_by, measured}
@@ -116,11 +117,6 @@ added_as spot line c own shape more turn stamp plan ext planned when stamped cop
     }
 
 -- ---- what a file can become
-
--- so many records of a length fill some bytes
-some_bytes : (format : Format) (size count bytes : ℕ) → IsSized format size count bytes → 1 ≤ size → 1 ≤ count → 1 ≤ bytes
-some_bytes F size count bytes is low some = subst (λ (n : ℕ). 1 ≤ n) (sym is) (mul-pos low some)
-some_bytes V size count bytes is low some = omega arith
 
 sized_behind : (format : Format) (size count bytes longest more added : ℕ) → IsSized format size count bytes → IsSized format (length_by format size longest) more added
     → IsSized format (length_behind format size longest) (count + more) (bytes + added)

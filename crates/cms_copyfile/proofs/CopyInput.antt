@@ -1,5 +1,5 @@
 -- The file that is copied, as a cursor reads it beside the output's draft.
-use Rattle.std.proofs.Common.{◌≡◌, ◌∙◌, inl, inr, ℕ, ◌≤◌, List, [], ◌∷◌, Option, Some, Ok, length, slice_get, refl, sym, ap, subst}
+use Rattle.std.proofs.Common.{◌≡◌, ◌∙◌, inl, inr, ℕ, ◌≤◌, List, [], ◌∷◌, Option, Some, Ok, length, slice_get, sym, ap, subst}
 use Rattle.std.specs.Prelude.{None}
 use Rattle.std.proofs.lemmas.Bool.{cases_Bool}
 use Rattle.std.proofs.lemmas.Bool.Decides.{eqb_tells}
@@ -8,8 +8,6 @@ use Rattle.std.proofs.lemmas.Option.{same_Some}
 use Rattle.cms_journal.specs.Journal.{HasBlocks, Journal}
 use Rattle.cms_journal.specs.Told.{Told}
 use Rattle.cms_fields.specs.declared.entry.Entry.{Entry}
-use Rattle.cms_names.specs.declared.name.Format.{Format}
-use Rattle.cms_names.specs.declared.name.Format.TheVariants.{F, V}
 use Rattle.cms_names.specs.declared.name.Name.{Name}
 use Rattle.cms_edf.specs.OpeningSteps.{OfImage}
 use Rattle.cms_machine.specs.Slots.{Settled, Slot}
@@ -34,6 +32,7 @@ use Rattle.cms_search.proofs.Stepped.{has_device}
 use Rattle.cms_files.specs.Files.{UnitFile, unit_file}
 use Rattle.cms_files.specs.OpenFiles.{IsOpened}
 use Rattle.cms_files.specs.declared.open_files.OpenFile.{OpenFile}
+use Rattle.cms_disk.proofs.FilesFound.{same_length as long_again}
 use Rattle.cms_copyfile.specs.Copies.{StayBeside}
 use Rattle.cms_copyfile.specs.FileCopies.{IsCopying}
 use Rattle.cms_copyfile.specs.declared.copy.FileCopy.{FileCopy}
@@ -47,11 +46,6 @@ unit_file_is u (Some f) z is =
     let made : UnitFile = record { unit = u; file = f } in
     let same : made ≡ z = ok_same made z is in
     (ap (λ (y : UnitFile). Some y.file) same, ap (λ (y : UnitFile). y.unit) same)
-
--- the length of a file of a minidisk is that of its records
-long_again : (format : Format) (size : ℕ) (records : List (List ℕ)) → length_of format size records ≡ length_of format (length_of format size records) records
-long_again F size records = refl
-long_again V size records = refl
 
 long_in : (name : Name) (es : List Entry) (cs : List (List (List ℕ))) (f : File) → file_named name (files_of es cs) ≡ Some f → f.length ≡ length_of f.format f.length f.records
 unfolding files_of file_named

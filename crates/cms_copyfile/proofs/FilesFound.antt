@@ -1,7 +1,7 @@
 -- The files that a line copies, as the table finds them.
 use Rattle.std.proofs.Common.{◌≡◌, ◌∙◌, ◌≤◌, ◌∷◌, ◌++◌, ℕ, suc, List, [], Option, Some, None, Result, Ok, Err, length, refl, sym, ap, map, slice_get, arith}
-use Rattle.std.specs.Prelude.{⊤, Bool, true, false, cond, not, if◌then◌else◌, ◌==◌, ◌&&◌, nat_le, nat_lt, IfSome}
-use Rattle.std.specs.List.{flat_map, list_all, prefix_len}
+use Rattle.std.specs.Prelude.{⊤, Bool, true, false, cond, if◌then◌else◌, ◌==◌, ◌&&◌, nat_le, nat_lt, IfSome}
+use Rattle.std.specs.List.{flat_map, list_all}
 use Rattle.std.specs.Option.{option_and_then, option_map, option_map_or}
 use Rattle.std.specs.Str.{bytes_eq}
 use Rattle.std.proofs.lemmas.Bool.{and_from, and_parts, eqb-true, leb-true}
@@ -30,6 +30,8 @@ use Rattle.cms_files.specs.Identifiers.{takes_name, takes_part}
 use Rattle.cms_files.specs.Told.{info_found}
 use Rattle.cms_files.specs.declared.identifier.NameChoice.{NameChoice}
 use Rattle.cms_files.proofs.TakenFiles.{no_shelf, open_shelf}
+use Rattle.cms_fields.proofs.Parts.{none_bad as all_before}
+use Rattle.cms_edf.proofs.NamesMet.{eq_sym}
 use Rattle.cms_copyfile.specs.Copyfile.{files_copied, files_named, listed_at, named_at, output_is_written}
 use Rattle.cms_copyfile.specs.NamedFiles.{pattern_for}
 use Rattle.cms_copyfile.specs.declared.named_files.NamedFile.{NamedFile}
@@ -46,14 +48,6 @@ all_fit [] is = refl
 all_fit (c ∷ text) is =
     let both = and_parts (is_name_character c) (list_all is_name_character text) is in
     and_from (is_pattern_character c) (list_all is_pattern_character text) (name_fits c both.0) (all_fit text both.1)
-
-all_before : (p : ℕ → Bool) (text : List ℕ) → list_all p text ≡ true → prefix_len (λ c. not (not (p c))) text ≡ length text
-all_before p [] is = refl
-all_before p (c ∷ text) is =
-    let both = and_parts (p c) (list_all p text) is in
-    let one = both.0 in
-    let rest = all_before p text both.1 in
-    rw one (omega (arith, rest))
 
 not_less : (a b : ℕ) → b ≤ a → nat_lt a b ≡ false
 not_less a b low = grind (arith, nat_tests)
@@ -110,9 +104,6 @@ star_is_none = refl
 percent_is_none : is_name_character 0x6C ≡ false
 unfolding is_name_character
 percent_is_none = refl
-
-eq_sym : (x y : ℕ) → (x == y) ≡ (y == x)
-eq_sym x y = grind (arith, nat_tests)
 
 -- a part fits itself alone
 part_fits : (part text : List ℕ) → list_all is_name_character part ≡ true → fits part text ≡ bytes_eq part text

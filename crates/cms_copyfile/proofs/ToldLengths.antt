@@ -12,6 +12,7 @@ use Rattle.cms_model.proofs.Records.{length-with_length, stored_append}
 use Rattle.cms_search.specs.Machine.{Machine}
 use Rattle.cms_files.specs.Files.{UnitFile}
 use Rattle.cms_files.specs.Told.{HasStored}
+use Rattle.cms_disk.proofs.RecordsPut.{stored_none as none_stored}
 use Rattle.cms_copyfile.specs.Copyfile.{file_at}
 use Rattle.cms_copyfile.specs.Measures.{measured}
 use Rattle.cms_copyfile.specs.Outputs.{copies_in}
@@ -38,10 +39,6 @@ equal_longest n (r ∷ rs) each some =
     let here : length r ≡ n = All-head (Fits F n) r rs each in
     let rest = equal_low n rs (All-tail (Fits F n) r rs each) in
     omega (arith, rest)
-
-none_stored : (format : Format) → length (stored format []) ≡ 0
-none_stored F = refl
-none_stored V = refl
 
 equal_stored : (format : Format) (n head : ℕ) (rs : List (List ℕ)) → All (Fits F n) rs → ((text : List ℕ) → length (stored format (text ∷ [])) ≡ head + length text)
     → length (stored format rs) ≡ length rs * (head + n)

@@ -24,22 +24,9 @@ use Rattle.cms_fields.specs.declared.time.Stamp.{Stamp}
 use Rattle.cms_fields.proofs.Parts.{field_read, front_passes, is_part_field-filled, length-filled, part_in-filled}
 use Rattle.cms_fields.proofs.StampBytes.{written_spells}
 use Rattle.cms_model.specs.LawsRecords.{AreBytes}
+use Rattle.cms_fields.proofs.WrittenEntry.{of_eight}
 use Rattle.cms_decks.specs.Headers.{field_part, fields_in, format_of, header_bytes, header_in, header_stamp, header_table, name_in, sizes_fit, with_sizes}
 use Rattle.cms_decks.specs.declared.header.Header.{Header}
-
--- what holds of each list of eight items written out holds of each list of eight
-of_eight : (P : List ℕ → Type 0) (xs : List ℕ) → length xs ≡ 8
-    → ((a b c d e f g h : ℕ) → P (a ∷ b ∷ c ∷ d ∷ e ∷ f ∷ g ∷ h ∷ [])) → P xs
-of_eight P [] long each = absurd (omega arith)
-of_eight P (a ∷ []) long each = absurd (omega arith)
-of_eight P (a ∷ b ∷ []) long each = absurd (omega arith)
-of_eight P (a ∷ b ∷ c ∷ []) long each = absurd (omega arith)
-of_eight P (a ∷ b ∷ c ∷ d ∷ []) long each = absurd (omega arith)
-of_eight P (a ∷ b ∷ c ∷ d ∷ e ∷ []) long each = absurd (omega arith)
-of_eight P (a ∷ b ∷ c ∷ d ∷ e ∷ f ∷ []) long each = absurd (omega arith)
-of_eight P (a ∷ b ∷ c ∷ d ∷ e ∷ f ∷ g ∷ []) long each = absurd (omega arith)
-of_eight P (a ∷ b ∷ c ∷ d ∷ e ∷ f ∷ g ∷ h ∷ []) long each = each a b c d e f g h
-of_eight P (a ∷ b ∷ c ∷ d ∷ e ∷ f ∷ g ∷ h ∷ i ∷ xs) long each = absurd (omega arith)
 
 -- what is known of a file's header
 pub record IsHeader (h : Header) : Type 0 where

@@ -1,5 +1,5 @@
 -- What a disk that is a minidisk tells beside its files, and when it is still one.
-use Rattle.std.proofs.Common.{◌≡◌, ⊎_elim, ℕ, suc, ◌-◌, ◌≤◌, true, false, List, [], ◌∷◌, length, drop, slice_get, slice_index_or, Some, refl, sym, ◌∙◌, ap, subst, arith}
+use Rattle.std.proofs.Common.{◌≡◌, ⊎_elim, ℕ, ◌-◌, ◌≤◌, true, false, List, [], ◌∷◌, length, drop, slice_get, slice_index_or, Some, refl, sym, ◌∙◌, ap, subst, arith}
 use Rattle.std.specs.Prelude.{nat_lt}
 use Rattle.std.proofs.lemmas.Bool.{cases_Bool, le-ltb}
 use Rattle.std.proofs.lemmas.Option.{slice_get-get_or}
@@ -9,9 +9,9 @@ use Rattle.cms_names.specs.declared.name.Name.{Name}
 use Rattle.cms_fields.specs.declared.entry.Entry.{Entry}
 use Rattle.cms_model.specs.Lists.{cut}
 use Rattle.cms_model.specs.Trees.{Image, bytes_at, image_of}
-use Rattle.cms_model.specs.Minidisks.{File, Minidisk, Volume, same_name}
+use Rattle.cms_model.specs.Minidisks.{File, Minidisk, Volume}
 use Rattle.cms_model.specs.Volumes.{files_of, minidisk_of, state_of}
-use Rattle.cms_model.specs.Changes.{Drop, Limited, behind_first, last_first, drop_file, changed_files, written_file, limit, is_full, answer_of, file_named}
+use Rattle.cms_model.specs.Changes.{Drop, Limited, drop_file, changed_files, written_file, limit, is_full, answer_of, file_named}
 use Rattle.cms_model.specs.LawsChanges.{IsPlace}
 use Rattle.cms_model.specs.Settled.{IsSettled}
 use Rattle.cms_model.specs.Stands.{opened}
@@ -27,6 +27,7 @@ use Rattle.cms_held.specs.MinidiskUpdates.{IsHeldMinidisk}
 use Rattle.cms_held.specs.HeldTrees.{TreesStand}
 use Rattle.cms_held.specs.HeldVolumes.{HeldFile, HeldVolume}
 use Rattle.cms_held.specs.LawsHeld.{IsFileOf, IsFound}
+use Rattle.cms_model.proofs.DirectoryNeed.{drop_counts as drop_fewer}
 use Rattle.cms_disk.specs.Disks.{Accessed, IsMinidisk, StandsIn, place_of}
 use Rattle.cms_disk.proofs.FilesFound.{stands_tells}
 
@@ -55,23 +56,6 @@ few_files image d m s =
     let files = ap (λ (x : Minidisk). length x.files) s.minidisk_is in
     let few = few_joined v.entries v.contents in
     omega (arith, entries, pieces, high, files, few)
-
-last_length : (files : List File) → length (last_first files) ≡ length files
-unfolding last_first
-last_length [] = refl
-last_length (f ∷ fs) = behind f (last_first fs) ∙ ap suc (last_length fs)
-  where
-    behind : (g : File) (gs : List File) → length (behind_first g gs) ≡ suc (length gs)
-    behind g [] = refl
-    behind g (first ∷ gs) = refl
-
-drop_fewer : (name : Name) (files : List File) → length (drop_file name files) ≤ length files
-unfolding drop_file
-drop_fewer name [] = omega arith
-drop_fewer name (f ∷ fs) = ⊎_elim
-    (λ (same : same_name name f.name ≡ true). rw same (let h = last_length fs in omega (arith, h)))
-    (λ (other : same_name name f.name ≡ false). rw other (let h = drop_fewer name fs in omega (arith, h)))
-    (cases_Bool (same_name name f.name))
 
 pub no_limit : (image : Image) (d : Accessed) (m : Minidisk) (name : Name) (k : ℕ) → StandsIn image d m → answer_of m (Drop name) ≡ Limited k → ⊥
 unfolding answer_of limit changed_files written_file

@@ -18,7 +18,7 @@ use Rattle.cms_model.specs.Settled.{Write, update, writes}
 use Rattle.cms_model.specs.Changes.{Add, Century, Change, Changed, Drop, Put, Relabel, Rename, changed, need}
 use Rattle.cms_model.proofs.Fronts.{front_nil}
 use Rattle.cms_machine.specs.Beats.{AreStamped, written_count}
-use Rattle.cms_machine.proofs.StepsFit.{syncs_counted}
+use Rattle.cms_machine.proofs.StepsFit.{syncs_counted, no_syncs}
 use Rattle.cms_tree.specs.Climbs.{AreOwn}
 use Rattle.cms_held.specs.HeldVolumes.{HeldFile, HeldVolume, Held}
 use Rattle.cms_held.specs.MinidiskUpdates.{IsHeldMinidisk}
@@ -71,9 +71,6 @@ draft_high : (v : HeldVolume) (d : Draft) → IsSomeDraft v d → (n : ℕ) → 
 draft_high v d some n there =
     let w = d.writer.writer in
     (all_in (λ k. (6 ≤ k) × (k ≤ v.label.blocks)) (blocks_in (tree_of d)) some.within n (own_among (w.bsize / w.psize) n w.tree.leaves w.tree.pointers w.kept there)).0
-
-no_syncs : (u : ℕ) (ws : List Write) → syncs (writes u ws) ≡ 0
-no_syncs u ws = (syncs_counted u ws [] 0).update_old (writes u ws) (whole_front (writes u ws))
 
 -- what a draft adds is written beside the minidisk, which stands
 record Written (old new : Told) (d : Accessed) (m : Minidisk) (draft : Draft) (ws : List Write) : Type 0 where

@@ -65,7 +65,7 @@ stored_told image d m f k bytes s at told =
     sym h.2 ∙ (stands_stored image d m s k h.0 f h.1 at).size_is
 
 -- the length of a file is that of its records
-same_length : (format : Format) (size : ℕ) (records : List (List ℕ)) → length_of format size records ≡ length_of format (length_of format size records) records
+pub same_length : (format : Format) (size : ℕ) (records : List (List ℕ)) → length_of format size records ≡ length_of format (length_of format size records) records
 same_length F size records = refl
 same_length V size records = refl
 

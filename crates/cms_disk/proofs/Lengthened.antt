@@ -1,5 +1,5 @@
 -- A file can become the one that it is with valid records behind its own.
-use Rattle.std.proofs.Common.{◌≡◌, ℕ, ◌+◌, ◌*◌, ◌≤◌, List, length, max, refl, sym, subst, arith, mul-pos}
+use Rattle.std.proofs.Common.{◌≡◌, ℕ, ◌+◌, ◌*◌, List, length, max, refl, sym, subst, arith}
 use Rattle.std.proofs.Math.Nat.{mul-add}
 use Rattle.cms_names.specs.declared.name.Format.{Format}
 use Rattle.cms_names.specs.declared.name.Format.TheVariants.{F, V}
@@ -8,13 +8,10 @@ use Rattle.cms_model.specs.declared.file.FileData.{FileData}
 use Rattle.cms_held.specs.Kept.{IsSized}
 use Rattle.cms_draft.specs.declared.shape.DraftShape.{DraftShape}
 use Rattle.cms_edf.specs.declared.held.FileInfo.{FileInfo}
+use Rattle.cms_edf.proofs.DraftPlanned.{some_bytes}
 use Rattle.cms_disk.specs.Additions.{CanExtend, FitsInfo, shape_with}
 use Rattle.cms_disk.specs.Disks.{IsFileInfo}
 use Rattle.cms_disk.proofs.FilePut.{sized_so}
-
-some_bytes : (format : Format) (size count bytes : ℕ) → IsSized format size count bytes → 1 ≤ size → 1 ≤ count → 1 ≤ bytes
-some_bytes F size count bytes is low some = subst (λ (n : ℕ). 1 ≤ n) (sym is) (mul-pos low some)
-some_bytes V size count bytes is low some = omega arith
 
 -- the bytes of all are those of so many records
 pub sized_with : (format : Format) (size count bytes most more added : ℕ) → IsSized format size count bytes → IsSized format most more added → (format ≡ F → most ≡ size)

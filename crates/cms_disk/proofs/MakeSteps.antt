@@ -30,7 +30,7 @@ use Rattle.cms_machine.specs.Slots.{Side, Before, After, Settled, named, set_of,
 use Rattle.cms_machine.specs.Steps.{Outcome, Good, OldFault, EitherFault, Make, MayMake, slot_after, update_syncs}
 use Rattle.cms_machine.specs.Beats.{AreStamped, HasStamp, IsStamped, written_count}
 use Rattle.cms_machine.proofs.Aside.{of_disk}
-use Rattle.cms_machine.proofs.StepsFit.{syncs_counted}
+use Rattle.cms_machine.proofs.StepsFit.{syncs_counted, update_count as two_syncs}
 use Rattle.cms_held.specs.MinidiskUpdates.{IsHeldMinidisk}
 use Rattle.cms_held.specs.EmptyVolumes.{MakePlan, IsEmptyVolume, IsReadyUnit, MakesEmpty, made_volume, made_writes}
 use Rattle.cms_held.specs.HeldVolumes.{HeldVolume}
@@ -180,11 +180,6 @@ ready_unit j unit before s r has least = record {
     long n from to (inr other) = ap (λ (l : List ℕ). length l) (wiped_other j unit.unit.number unit.bsize n from other) ∙ r.whole.each n from to
 
 -- ---- the events of the making
-
-two_syncs : (u : ℕ) (ws : List Write) (label : List ℕ) → syncs (update u ws label) ≡ 2
-unfolding writes update
-two_syncs u [] label = refl
-two_syncs u (w ∷ ws) label = two_syncs u ws label
 
 -- its writes have its stamp
 stamped_made : {volid : List ℕ} (m : MakePlan) (stamp : Stamp) → IsEmptyVolume m volid stamp → AreStamped m.unit (Some stamp) (update m.unit (made_writes m) m.systems.label_bytes)

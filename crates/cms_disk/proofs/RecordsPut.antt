@@ -180,7 +180,7 @@ put_next start old new first d e all more text to has same puts =
           (to.goes begin a m change stamp done (subst (λ (l : List (List ℕ)). GoesOn begin start a m first change stamp done l) (append_assoc to.gone (text ∷ []) more) g)));
     }
 
-stored_none : (format : Format) → length (stored format []) ≡ 0
+pub stored_none : (format : Format) → length (stored format []) ≡ 0
 stored_none F = refl
 stored_none V = refl
 

@@ -1,5 +1,5 @@
 -- Bytes that are taken into data blocks, and what is written with them.
-use Rattle.std.proofs.Common.{◌≡◌, ◌⊎◌, inr, ⊎_elim, ℕ, zero, suc, ◌+◌, ◌-◌, ◌*◌, ◌/◌, ◌<◌, ◌≤◌, eqb, min, List, [], ◌∷◌, ◌++◌, length, take, drop, get_or, Result, Ok, Err, Some, refl, sym, ◌∙◌, ap, subst, arith, append_assoc, append-nil, length-append, mul-le-mul_right}
+use Rattle.std.proofs.Common.{◌≡◌, ◌⊎◌, inr, ⊎_elim, ℕ, suc, ◌+◌, ◌-◌, ◌*◌, ◌/◌, ◌<◌, ◌≤◌, eqb, min, List, [], ◌∷◌, ◌++◌, length, take, drop, get_or, Result, Ok, Err, Some, refl, sym, ◌∙◌, ap, subst, arith, append_assoc, append-nil, length-append, mul-le-mul_right}
 use Rattle.std.specs.Prelude.{replicate, ⊤}
 use Rattle.std.proofs.lemmas.Bool.{cases_lt, cases_eq, cond-true, cond-false, eq-eqb, ne_eqb}
 use Rattle.std.proofs.lemmas.List.Elements.{All-get_or}
@@ -34,20 +34,10 @@ use Rattle.cms_held.proofs.DraftOwn.{keeps_nothing}
 use Rattle.cms_model.proofs.Members.{In-left, In-right}
 use Rattle.cms_model.specs.Lists.{In}
 use Rattle.cms_held.specs.HeldVolumes.{HeldTree}
-
-pub next_multiple : (a b : ℕ) → (a + 1) * b ≡ a * b + b
-next_multiple a b = grind arith
+use Rattle.cms_held.proofs.PiecesWritten.{take_both}
+use Rattle.cms_held.proofs.GrownTrees.{next_multiple}
 
 -- ---- bytes in a block
-
-take_both : (a b : ℕ) (xs : List ℕ) → take a xs ++ take b (drop a xs) ≡ take (a + b) xs
-take_both zero b xs = let e : 0 + b ≡ b = omega arith in rw e refl
-take_both (suc a) b [] = let e : suc a + b ≡ suc (a + b) = omega arith in rw e (none b)
-  where
-    none : (n : ℕ) → take {A = ℕ} n [] ≡ []
-    none zero = refl
-    none (suc n) = refl
-take_both (suc a) b (x ∷ xs) = let e : suc a + b ≡ suc (a + b) = omega arith in rw e (ap (λ (l : List ℕ). x ∷ l) (take_both a b xs))
 
 -- bytes written behind those in a block
 block_on : (bsize f n : ℕ) (behind text more : List ℕ) → f ≤ length behind → drop f behind ≡ text ++ more → n ≤ length text → f + n ≤ bsize

@@ -27,10 +27,11 @@ use Rattle.cms_tree.specs.Kept.{Kept}
 use Rattle.cms_held.specs.Drafts.{Front, mark_with, no_front, nowhere, own_blocks, stored_on}
 use Rattle.cms_held.proofs.DraftOwn.{own_all}
 use Rattle.cms_tree.proofs.ClimbBlocks.{some_fan}
+use Rattle.cms_held.proofs.GrownTrees.{next_multiple}
 use Rattle.cms_draft.specs.BlockWriters.{Finishes, its_blocks, IsNewWriter, IsWriter, IsSame, came, AreMarked, ComesNext, Stops, Streams, Writes, Wrote, mark_on, with_start}
 use Rattle.cms_draft.specs.FileWriters.{FileWriter, Drafts, IsDrafting, IsFresh, IsMarkedSo, Puts, marks_in, marks_of}
 use Rattle.cms_draft.specs.declared.block_writer.BlockWriter.{BlockWriter}
-use Rattle.cms_draft.proofs.BlockWritten.{block_there, few_leaves, mark_here, mark_behind, mark_later, marked_later, next_later, next_multiple, same_twice, stops_on, wrote_none, wrote_on}
+use Rattle.cms_draft.proofs.BlockWritten.{block_there, few_leaves, mark_here, mark_behind, mark_later, marked_later, next_later, same_twice, stops_on, wrote_none, wrote_on}
 use Rattle.cms_draft.proofs.DraftMarks.{Begins, mark_end, mark_is, mark_whole, place_none, place_past, started_place}
 
 -- ---- stored bytes

@@ -41,7 +41,7 @@ use Rattle.cms_held.specs.SharedBlocks.{fresh_of}
 use Rattle.cms_held.specs.SharedTrees.{HasShape, StandsByLevels}
 use Rattle.cms_held.specs.Written.{ReadsBack}
 use Rattle.cms_tree.specs.Resumes.{kept_of}
-use Rattle.cms_held.proofs.AddCarried.{add_is_carried, add_is_small, add_writes}
+use Rattle.cms_held.proofs.AddCarried.{add_is_carried, add_is_small, add_writes, kept_at}
 use Rattle.cms_held.proofs.BlockBytes.{all_long}
 use Rattle.cms_held.proofs.Drafted.{fan_is}
 use Rattle.cms_held.proofs.Edits.{AtPlace, Old, at_place, files_old}
@@ -57,7 +57,6 @@ use Rattle.cms_edf.proofs.AddedRecords.{grown_records, start_behind}
 use Rattle.cms_edf.proofs.Committed.{AllStands, Whole, all_stands, all_streams, left_own, whole_behind}
 use Rattle.cms_edf.proofs.DraftPlanned.{limits}
 use Rattle.cms_edf.proofs.DraftPut.{more_edit, more_is_some, plan_of}
-use Rattle.cms_edf.proofs.GrownNumbers.{kept_at}
 use Rattle.cms_edf.proofs.Planned.{named_at}
 
 -- the start that records have, where some are read

@@ -1,13 +1,11 @@
 -- What comes in front of records that are added stays as blocks of the draft are written.
-use Rattle.std.proofs.Common.{◌≡◌, ◌⊎◌, inl, inr, ℕ, ◌/◌, ◌≤◌, List, [], ◌∷◌, length, take, Some, refl, sym, ◌∙◌, ap, subst, arith}
+use Rattle.std.proofs.Common.{◌≡◌, inl, inr, ℕ, ◌/◌, ◌≤◌, List, [], ◌∷◌, length, take, Some, refl, sym, ◌∙◌, ap, subst, arith}
 use Rattle.std.specs.Prelude.{slice_get}
 use Rattle.std.proofs.lemmas.List.Elements.{All-cons, All-head, All-nil, All-tail}
 use Rattle.cms_journal.specs.Journal.{Journal, start_of}
 use Rattle.std.specs.Option.{ForSome}
 use Rattle.cms_journal.specs.Told.{Told, plus}
 use Rattle.cms_names.specs.declared.name.Name.{Name}
-use Rattle.cms_names.specs.declared.name.Format.{Format}
-use Rattle.cms_names.specs.declared.name.Format.TheVariants.{F, V}
 use Rattle.cms_fields.specs.Entries.{pointer_size}
 use Rattle.cms_fields.specs.declared.time.Stamp.{Stamp}
 use Rattle.cms_model.specs.Lists.{In}
@@ -36,16 +34,12 @@ use Rattle.cms_held.proofs.OldBlocks.{old_blocks}
 use Rattle.cms_held.proofs.PutAsides.{free_aside, free_of}
 use Rattle.cms_draft.specs.BlockWriters.{AddsOwnBlocks, its_blocks}
 use Rattle.cms_draft.specs.declared.shape.DraftShape.{DraftShape}
+use Rattle.cms_draft.proofs.FilePuts.{both_sizes as pointer_kind}
+use Rattle.cms_held.proofs.AddCarried.{kept_at}
 use Rattle.cms_edf.specs.FileDrafts.{Draft, tree_of}
 use Rattle.cms_edf.specs.Growths.{IsFrontOf, IsGrowthPlanned, IsMoreFor, kept_in}
 use Rattle.cms_edf.proofs.Finished.{told_so}
-use Rattle.cms_edf.proofs.GrownNumbers.{kept_at}
 use Rattle.cms_edf.proofs.GrownOnce.{file_blocks_of}
-
--- a pointer has one of two sizes
-pub pointer_kind : (format : Format) → (pointer_size format ≡ 4) ⊎ (pointer_size format ≡ 12)
-pointer_kind F = inl refl
-pointer_kind V = inr refl
 
 -- blocks that have their bytes in one image have them in one that is the same there
 long_moves : (bsize : ℕ) (before later : Image) (ns : List ℕ) → ((n : ℕ) → In n ns → before n ≡ later n) → AreLong bsize before ns → AreLong bsize later ns

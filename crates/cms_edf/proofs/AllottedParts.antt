@@ -1,7 +1,6 @@
 -- What is allotted for an update, put together, and what is planned with it.
 use Rattle.std.proofs.Common.{◌≡◌, ℕ, ◌+◌, ◌-◌, ◌/◌, ◌≤◌, List, ◌∷◌, ◌++◌, length, map, take, drop, sym, ◌∙◌, ap, subst, arith}
 use Rattle.std.specs.List.{concat}
-use Rattle.std.proofs.lemmas.List.{length-map}
 use Rattle.cms_fields.specs.declared.entry.Entry.{Entry}
 use Rattle.cms_fields.specs.declared.time.Stamp.{Stamp}
 use Rattle.cms_model.specs.DirectoryParts.{blocks_made, directory_count}
@@ -10,11 +9,12 @@ use Rattle.cms_map.specs.Bits.{free_blocks, with_marked}
 use Rattle.cms_map.specs.Touched.{AreTouched}
 use Rattle.cms_held.specs.Allotments.{IsPartAllotted, IsPlanned, KeepsTree, files_fresh, files_released, nodes_fresh, on_map, part_fresh, part_released, parts_of}
 use Rattle.cms_held.specs.EntryPlaces.{IsEnoughFor}
-use Rattle.cms_held.specs.HeldVolumes.{HeldFile, HeldTree, HeldVolume}
+use Rattle.cms_held.specs.HeldVolumes.{HeldTree, HeldVolume}
 use Rattle.cms_held.specs.MapShares.{turned}
 use Rattle.cms_held.specs.Renewals.{Edit, entries_held, needed, with_freed}
 use Rattle.cms_held.specs.SharedBlocks.{fresh_of, released_of}
 use Rattle.cms_held.specs.Systems.{Systems, TreePart, directory_piece}
+use Rattle.cms_held.proofs.PartCases.{held_count}
 use Rattle.cms_edf.specs.Allotments.{IsAllottedFor, all_fresh, all_released, given_back, need_of, own_fresh, own_released, numbers_made}
 use Rattle.cms_edf.specs.ChangePlans.{IsFilled}
 use Rattle.cms_edf.specs.declared.allotment.Allotment.{Allotment}
@@ -27,10 +27,6 @@ pub record Asks (v : HeldVolume) (x : Exchange) (a : Allotment) (entries : List 
   pub made : edit.made ≡ numbers_made x
   pub given : edit.given ≡ given_back x
   pub taken : edit.taken ≡ a.file.items
-
--- as many entries as files
-held_count : (hs : List HeldFile) → length (entries_held hs) ≡ length hs
-held_count hs = length-map hs (λ (h : HeldFile). h.entry)
 
 pub files_are : (v : HeldVolume) (x : Exchange) (a : Allotment) (entries : List Entry) (edit : Edit) → Asks v x a entries edit → length edit.files ≡ x.files
 files_are v x a entries edit asks = sym (held_count edit.files) ∙ (ap (λ (l : List Entry). length l) asks.entries_are ∙ sym asks.files)

@@ -9,8 +9,6 @@ use Rattle.cms_journal.specs.Journal.{HasBlock, HasBlocks, IsBlockSize, contents
 use Rattle.cms_journal.specs.Told.{Told}
 use Rattle.cms_journal.specs.declared.event.Attached.{Attached}
 use Rattle.cms_journal.proofs.Sizes.{block_bounds}
-use Rattle.cms_names.specs.declared.name.Format.{Format}
-use Rattle.cms_names.specs.declared.name.Format.TheVariants.{F, V}
 use Rattle.cms_fields.specs.Entries.{fan_of, pointer_size}
 use Rattle.cms_model.specs.Lists.{In}
 use Rattle.cms_model.specs.Sizes.{levels, pointer_count}
@@ -33,9 +31,11 @@ use Rattle.cms_held.proofs.Drafted.{fan_is}
 use Rattle.cms_draft.specs.BegunFiles.{IsInFront}
 use Rattle.cms_draft.specs.declared.begun.Begun.{Begun}
 use Rattle.cms_draft.specs.declared.shape.DraftShape.{DraftShape}
+use Rattle.cms_draft.proofs.FilePuts.{both_sizes as pointer_fits}
+use Rattle.cms_held.proofs.AddCarried.{kept_at}
 use Rattle.cms_edf.specs.Growths.{GrowsAs, IsBegunOf, IsFront, IsGrowthOf}
 use Rattle.cms_edf.specs.declared.growth.Growth.{Growth}
-use Rattle.cms_edf.proofs.GrownNumbers.{kept_at, rest_within}
+use Rattle.cms_edf.proofs.GrownNumbers.{rest_within}
 use Rattle.cms_edf.proofs.Listings.{on_unit}
 
 -- what was read of it, in an image
@@ -72,10 +72,6 @@ rest_bytes bsize size kept image leaves some is long high =
           let none : kept * bsize + 0 ≡ kept * bsize = omega arith in
           cut ∙ (ap (λ (n : ℕ). take r (drop n (bytes_at image leaves))) (sym none) ∙ piece_by_place bsize image leaves kept 0 r long within (omega arith)),
     )
-
-pointer_fits : (format : Format) → (pointer_size format ≡ 4) ⊎ (pointer_size format ≡ 12)
-pointer_fits F = inl refl
-pointer_fits V = inr refl
 
 -- what is kept of the pointer blocks has their lengths
 front_keeps : (bsize : ℕ) (image : Image) (f : HeldFile) (g : Growth) (b : Begun) (es : List Kept) (tree : HeldTree) → IsBlockSize bsize → ReadsBegun bsize image f g b es → 1 ≤ length tree.leaves

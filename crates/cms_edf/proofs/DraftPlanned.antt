@@ -101,7 +101,7 @@ whole_blocks size bytes (inr (inr (inr is))) low = subst (λ (b : ℕ). up bytes
 few_blocks : (size bytes : ℕ) → IsBlockSize size → bytes ≤ most_bytes → up bytes size ≤ most_bytes / size
 few_blocks size bytes is low = (le-div_iff_mul-le {k = size} {x = up bytes size} {y = most_bytes} (omega (arith, is))).1 (whole_blocks size bytes is low)
 
-some_bytes : (format : Format) (size count bytes : ℕ) → IsSized format size count bytes → 1 ≤ size → 1 ≤ count → 1 ≤ bytes
+pub some_bytes : (format : Format) (size count bytes : ℕ) → IsSized format size count bytes → 1 ≤ size → 1 ≤ count → 1 ≤ bytes
 some_bytes F size count bytes is low some = subst (λ (n : ℕ). 1 ≤ n) (sym is) (mul-pos low some)
 some_bytes V size count bytes is low some = omega arith
 

@@ -37,6 +37,7 @@ use Rattle.cms_held.proofs.Grown.{behind_all, behind_low}
 use Rattle.cms_held.proofs.KeptTrees.{nodes_are}
 use Rattle.cms_held.proofs.NewMap.{row_within}
 use Rattle.cms_draft.specs.declared.shape.DraftShape.{DraftShape}
+use Rattle.cms_held.proofs.AddCarried.{kept_at}
 use Rattle.cms_edf.specs.Allotments.{IsAllottedFor, given_back, need_of, numbers_made}
 use Rattle.cms_edf.specs.ChangePlans.{IsFilled}
 use Rattle.cms_edf.specs.FileDrafts.{entry_for, file_for, list_with}
@@ -49,7 +50,6 @@ use Rattle.cms_edf.specs.declared.allotment.PlanFault.TheVariants as failed
 use Rattle.cms_edf.specs.declared.growth.Growth.{Growth}
 use Rattle.cms_edf.proofs.AllottedParts.{Asks, planned_of}
 use Rattle.cms_edf.proofs.DraftPlanned.{count_held, enough_with, entry_passes, limits, taken_free, taken_within}
-use Rattle.cms_edf.proofs.GrownNumbers.{kept_at}
 use Rattle.cms_edf.proofs.NodesKept.{kept_leaves, kept_nodes}
 use Rattle.cms_edf.proofs.Planned.{all_in}
 

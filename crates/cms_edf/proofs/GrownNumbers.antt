@@ -1,8 +1,6 @@
 -- The numbers of a tree that grows.
-use Rattle.std.proofs.Common.{◌≡◌, ⊎_elim, ℕ, ◌+◌, ◌-◌, ◌*◌, ◌/◌, ◌%◌, ◌<◌, ◌≤◌, List, ◌++◌, length, take, replicate, Some, slice_get, sym, ap, subst, arith, mul-le-mul_right, div-add-mod', length-take-le}
+use Rattle.std.proofs.Common.{◌≡◌, ⊎_elim, ℕ, ◌+◌, ◌-◌, ◌*◌, ◌/◌, ◌%◌, ◌<◌, ◌≤◌, List, ◌++◌, length, take, replicate, sym, ap, subst, arith, mul-le-mul_right, div-add-mod', length-take-le}
 use Rattle.std.proofs.lemmas.Bool.{cases_lt}
-use Rattle.std.proofs.lemmas.List.Elements.{All-get_or}
-use Rattle.std.proofs.lemmas.Option.{get_or_from_slice_get, slice_get_within}
 use Rattle.cms_journal.specs.Journal.{IsBlockSize}
 use Rattle.cms_journal.proofs.Sizes.{block_bounds}
 use Rattle.cms_fields.specs.Entries.{fan_of}
@@ -12,8 +10,8 @@ use Rattle.cms_model.specs.Sizes.{levels}
 use Rattle.cms_model.proofs.FileSizes.{fan_wide}
 use Rattle.cms_model.proofs.Quotients.{up_spec}
 use Rattle.cms_held.specs.Drafts.{filled}
-use Rattle.cms_held.specs.HeldVolumes.{HeldFile, HeldVolume}
-use Rattle.cms_held.specs.Kept.{IsKeptFile, Keeps}
+use Rattle.cms_held.specs.HeldVolumes.{HeldFile}
+use Rattle.cms_held.specs.Kept.{IsKeptFile}
 use Rattle.cms_draft.specs.declared.shape.DraftShape.{DraftShape}
 use Rattle.cms_edf.specs.Growths.{GrowsAs, IsGrowthOf}
 use Rattle.cms_edf.specs.declared.growth.Growth.{Growth}
@@ -56,12 +54,6 @@ blocks_more bsize size bytes blocks some low less =
     ⊎_elim (λ (fewer : up bytes bsize < blocks). let wide : up bytes bsize * bsize ≤ (blocks - 1) * bsize = mul-le-mul_right bsize (let fewer' : up bytes bsize ≤ blocks - 1 = omega arith in fewer') in absurd (omega arith))
     (λ (within : blocks ≤ up bytes bsize). within)
     (cases_lt (up bytes bsize) blocks)
-
--- the file at a place is kept
-pub kept_at : (v : HeldVolume) (place : ℕ) (f : HeldFile) → Keeps v → slice_get v.files place ≡ Some f → IsKeptFile v.disk.bsize v.label.blocks f
-kept_at v place f kept is =
-    subst (IsKeptFile v.disk.bsize v.label.blocks) (get_or_from_slice_get v.files place f f is)
-    (All-get_or (IsKeptFile v.disk.bsize v.label.blocks) v.files place f (slice_get_within v.files place f is) kept.each)
 
 -- so does its tree grow
 pub growth_is : (bsize total : ℕ) (asked : DraftShape) (f : HeldFile) (g : Growth) → IsBlockSize bsize → IsKeptFile bsize total f → GrowsAs f asked → asked.bytes ≤ most_bytes

@@ -2,7 +2,7 @@
 use Rattle.std.proofs.Common.{◌≡◌, inr, ⊎_elim, ℕ, zero, suc, ◌+◌, ◌*◌, ◌<◌, ◌≤◌, Bool, true, false, if◌then◌else◌, List, [], ◌∷◌, ◌++◌, length, take, drop, get_or, All, Some, refl, sym, ◌∙◌, ap, subst, arith}
 use Rattle.std.specs.Prelude.{slice_get, ◌==◌}
 use Rattle.std.specs.List.{concat}
-use Rattle.std.proofs.lemmas.Bool.{cases_lt, eqb-true, false_from_ne_true}
+use Rattle.std.proofs.lemmas.Bool.{cases_lt}
 use Rattle.std.proofs.lemmas.List.Elements.{All-head, All-tail}
 use Rattle.std.proofs.lemmas.List.{take-append-drop}
 use Rattle.cms_journal.specs.Journal.{Journal}
@@ -13,7 +13,7 @@ use Rattle.cms_model.specs.SharedTrees.{fresh_on, is_kept}
 use Rattle.cms_model.specs.SharedTimes.{came, without}
 use Rattle.cms_model.specs.Sizes.{levels}
 use Rattle.cms_model.specs.Stands.{Kept, Layout, file_blocks, layout_blocks}
-use Rattle.cms_model.proofs.Repeats.{bit, held_from, in_from, miss, times_append}
+use Rattle.cms_model.proofs.Repeats.{bit, held_from, in_from, times_append}
 use Rattle.cms_model.proofs.SharedTiers.{never_kept}
 use Rattle.cms_model.proofs.WrittenBlocks.{leaf_written}
 use Rattle.cms_map.specs.Bits.{free_blocks}
@@ -32,12 +32,10 @@ use Rattle.cms_held.proofs.MapMarks.{free_once}
 use Rattle.cms_held.proofs.OldBlocks.{old_blocks, past_label, same_blocks}
 use Rattle.cms_held.proofs.PutAsides.{free_aside}
 use Rattle.cms_held.proofs.PutMoves.{at_times}
+use Rattle.cms_model.proofs.Shares.{not_eq as miss_one}
 
 clash : true ≡ false → ⊥
 clash e = cc
-
-miss_one : (n x : ℕ) → (n ≡ x → ⊥) → bit (n == x) ≡ 0
-miss_one n x other = miss (n == x) (false_from_ne_true (n == x) (λ same. other (eqb-true n x same)))
 
 -- ---- one level
 

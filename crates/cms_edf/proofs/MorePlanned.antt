@@ -22,14 +22,14 @@ use Rattle.cms_draft.specs.BlockWriters.{came, its_blocks}
 use Rattle.cms_draft.specs.FileWriters.{IsDrafting}
 use Rattle.cms_draft.specs.declared.begun.Begun.{Begun}
 use Rattle.cms_draft.specs.declared.shape.DraftShape.{DraftShape}
+use Rattle.cms_draft.proofs.FilePuts.{both_sizes as pointer_kind}
+use Rattle.cms_held.proofs.AddCarried.{kept_at}
 use Rattle.cms_edf.specs.FileDrafts.{Draft, entry_for, tree_of}
 use Rattle.cms_edf.specs.Growths.{IsBehind, IsGrowthPlanned, IsGrownPlan, IsMoreFor, IsMoreRefused, IsReadFault, kept_in, need_more}
 use Rattle.cms_edf.specs.declared.growth.Growth.{Growth}
 use Rattle.cms_edf.specs.declared.growth.GrownPlan.{GrownPlan}
 use Rattle.cms_edf.specs.declared.growth.MoreFault.{MoreFault}
 use Rattle.cms_edf.specs.declared.growth.MoreFault.TheVariants as more
-use Rattle.cms_edf.proofs.AddedFront.{pointer_kind}
-use Rattle.cms_edf.proofs.GrownNumbers.{kept_at}
 use Rattle.cms_edf.proofs.RecordStarts.{same_quotient}
 
 -- the blocks that the draft of a grown tree writes are free

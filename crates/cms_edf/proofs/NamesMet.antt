@@ -20,7 +20,7 @@ same_as a b = bytes_eq a.file b.file && bytes_eq a.kind b.kind
 eq_back : (x y : ℕ) → (x == y) ≡ true → (y == x) ≡ true
 eq_back x y e = eq-eqb y x (sym (eqb-true x y e))
 
-eq_sym : (x y : ℕ) → (x == y) ≡ (y == x)
+pub eq_sym : (x y : ℕ) → (x == y) ≡ (y == x)
 eq_sym x y = ⊎_elim
     (λ (e : (x == y) ≡ true). e ∙ sym (eq_back x y e))
     (λ (e : (x == y) ≡ false). ⊎_elim (λ (f : (y == x) ≡ true). eq_back y x f ∙ sym f) (λ (f : (y == x) ≡ false). e ∙ sym f) (cases_Bool (y == x)))

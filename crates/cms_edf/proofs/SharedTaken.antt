@@ -11,13 +11,13 @@ use Rattle.cms_model.proofs.Exchanges.{to_few}
 use Rattle.cms_model.proofs.WrittenBlocks.{fresh_leaves, leaf_kept, leaf_written, upto_all, written_few}
 use Rattle.cms_tree.specs.Paths.{fresh_places, numbered, path_levels, tree_levels}
 use Rattle.cms_tree.proofs.Paths.{get-numbered, length-numbered, numbered_takes, places_count}
+use Rattle.cms_tree.proofs.Resumes.{length-levels_of as levels_count}
 use Rattle.cms_held.specs.Allotments.{KeepsTree}
 use Rattle.cms_held.specs.HeldVolumes.{HeldTree}
 use Rattle.cms_held.specs.SharedBlocks.{fresh_of, levels_in, released_of}
 use Rattle.cms_held.specs.Systems.{TreePart}
 use Rattle.cms_held.proofs.KeptTrees.{nodes_come}
 use Rattle.cms_held.proofs.PiecesWritten.{take_both}
-use Rattle.cms_held.proofs.SharedTrees.{levels_count}
 
 -- as many data blocks take a fresh number as are written
 pub leaves_fresh : (before count : ℕ) (written : List ℕ) → MayBeWritten before count written → fresh_on true 1 before count written count ≡ length written

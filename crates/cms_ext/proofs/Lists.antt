@@ -14,6 +14,7 @@ use Rattle.std.proofs.lemmas.Option.{get_or_from_slice_get, slice_get-map, slice
 use Rattle.std.proofs.lemmas.Slice.Eq.{bytes_eq-Decides}
 use Rattle.cms_machine.specs.LawsObjects.{AreDistinct, IsGone}
 use Rattle.cms_machine.specs.Objects.{Object}
+use Rattle.cms_search.proofs.Released.{position_map}
 use Rattle.cms_ext.specs.Objects.{AnswersAt, HasPlace, Means, object_in, objects_of, place_of, words_of}
 use Rattle.cms_ext.specs.Replies.{Answers}
 use Rattle.cms_ext.specs.declared.extension.ExtReply.{ExtReply}
@@ -25,21 +26,6 @@ map-remove f place xs =
     map-append f (take place xs) (drop (suc place) xs)
     ∙ (ap (λ ys. ys ++ map f (drop (suc place) xs)) (sym (take-map f place xs))
     ∙ ap (λ ys. take place (map f xs) ++ ys) (sym (drop-map f (suc place) xs)))
-
-prefix_map : {A B : Type 0} (f : A → B) (p : B → Bool) (xs : List A)
-    → prefix_len (λ x. not (p x)) (map f xs) ≡ prefix_len (λ x. not (p (f x))) xs
-prefix_map f p [] = refl
-prefix_map f p (x ∷ xs) = cases (p (f x)) (prefix_map f p xs)
-  where
-    cases : (b : Bool) → prefix_len (λ x. not (p x)) (map f xs) ≡ prefix_len (λ x. not (p (f x))) xs
-        → cond (not b) (1 + prefix_len (λ x. not (p x)) (map f xs)) 0
-        ≡ cond (not b) (1 + prefix_len (λ x. not (p (f x))) xs) 0
-    cases true h = refl
-    cases false h = ap (λ (k : ℕ). 1 + k) h
-
-pub position_map : {A B : Type 0} (f : A → B) (p : B → Bool) (xs : List A)
-    → position p (map f xs) ≡ position (λ x. p (f x)) xs
-position_map f p xs = rw (prefix_map f p xs, length-map xs f) refl
 
 -- the item in a place that there is
 pub there : {A B : Type 0} (f : A → B) (xs : List A) (place : ℕ) (x : A) → place < length xs → x ≡ get_or xs place x

@@ -61,7 +61,7 @@ is_part_field-filled text is =
     rw (part_in-filled text is, behind-filled text) (and_from _ _ some (all_blank (8 - length text)))
 
 -- where all pass no place is the first that doesn't
-none_bad : (p : ℕ → Bool) (text : List ℕ) → list_all p text ≡ true → prefix_len (λ c. not (not (p c))) text ≡ length text
+pub none_bad : (p : ℕ → Bool) (text : List ℕ) → list_all p text ≡ true → prefix_len (λ c. not (not (p c))) text ≡ length text
 none_bad p [] all = refl
 none_bad p (c ∷ text) all =
     let both = and_parts (p c) (list_all p text) all in

@@ -31,7 +31,7 @@ next_item : (k : ℕ) (xs : List ℕ) → k < length xs → drop k xs ≡ get_or
 next_item k xs lt = drop-cons xs k 0 lt
 
 -- what holds of each list of eight items written out holds of each list of eight
-of_eight : (P : List ℕ → Type 0) (xs : List ℕ) → length xs ≡ 8
+pub of_eight : (P : List ℕ → Type 0) (xs : List ℕ) → length xs ≡ 8
     → ((a b c d e f g h : ℕ) → P (a ∷ b ∷ c ∷ d ∷ e ∷ f ∷ g ∷ h ∷ [])) → P xs
 of_eight P xs long each =
     let e0 : drop 0 xs ≡ get_or xs 0 0 ∷ drop 1 xs = next_item 0 xs (omega arith) in

@@ -49,7 +49,7 @@ acts_unfound old new words place next find fault r is does went same =
     acts_refused old new (λ units. on_found (machine_of old.state units) words place (next (machine_of old.state units)) (find (machine_of old.state units)))
     (search_message words place fault) (pos (search_code fault)) r does went same (λ units h. (let e = is units h in rw e refl))
 
-memory_or_other : (fault : SearchFault) → (fault ≡ why.Memory) ⊎ (fault ≡ why.Memory → ⊥)
+pub memory_or_other : (fault : SearchFault) → (fault ≡ why.Memory) ⊎ (fault ≡ why.Memory → ⊥)
 memory_or_other (why.NoUnit vdev) = inr (λ is. cc is)
 memory_or_other (why.NotAccessed n) = inr (λ is. cc is)
 memory_or_other (why.ReadOnly n) = inr (λ is. cc is)

@@ -13,7 +13,7 @@ use Rattle.cms_operands.specs.declared.refusal.Refusal.TheVariants.{BadMode}
 abbrev pub HasNumber : Option WriteMode → Type 0
 HasNumber out = IfSome out (λ mode. IfSome mode.number (λ k. k ≤ 6))
 
-number_below : (c k : ℕ) → mode_number_of c ≡ Some k → k ≤ 6
+pub number_below : (c k : ℕ) → mode_number_of c ≡ Some k → k ≤ 6
 unfolding mode_number_of
 number_below c k is = cases (nat_le 0xF0 c) (nat_le c 0xF6) refl is
   where

@@ -261,7 +261,7 @@ grown_taken j v old place f g marks front mark more added a kept q =
     may = rw (old_is, new_is) (grown_may bsize f.size (f.size + bytes) some)
 
 -- what is known of the file
-kept_at : (v : HeldVolume) (place : ℕ) (f : HeldFile) → Keeps v → slice_get v.files place ≡ Some f → IsKeptFile v.disk.bsize v.label.blocks f
+pub kept_at : (v : HeldVolume) (place : ℕ) (f : HeldFile) → Keeps v → slice_get v.files place ≡ Some f → IsKeptFile v.disk.bsize v.label.blocks f
 kept_at v place f kept there = subst (IsKeptFile v.disk.bsize v.label.blocks) (get_or_from_slice_get v.files place f f there)
     (All-get_or (IsKeptFile v.disk.bsize v.label.blocks) v.files place f (slice_get_within v.files place f there) kept.each)
 

@@ -1,5 +1,5 @@
 -- The entries of a directory by their places, and those that an update leaves as they were.
-use Rattle.std.proofs.Common.{◌≡◌, ◌⊎◌, inl, inr, ⊎_elim, ℕ, zero, suc, ◌+◌, ◌-◌, ◌*◌, ◌/◌, ◌%◌, ◌<◌, ◌≤◌, true, false, List, [], ◌∷◌, ◌++◌, length, map, take, drop, set, get_or, Result, Ok, Err, refl, sym, ◌∙◌, ap, subst, arith, div-add-mod', mod-lt, length-append, mul-le-mul_right}
+use Rattle.std.proofs.Common.{◌≡◌, ◌⊎◌, inl, inr, ⊎_elim, ℕ, zero, suc, ◌+◌, ◌-◌, ◌*◌, ◌/◌, ◌%◌, ◌<◌, ◌≤◌, true, false, List, [], ◌∷◌, ◌++◌, length, map, take, drop, set, get_or, Ok, refl, sym, ◌∙◌, ap, subst, arith, div-add-mod', mod-lt, length-append, mul-le-mul_right}
 use Rattle.std.proofs.lemmas.Bool.{cases_lt}
 use Rattle.std.proofs.lemmas.List.{length-map, length-set, length-take, map-append, map-set, take-map, get_or-set_other, get_or-take, get_or_append_left, drop-drop}
 use Rattle.cms_journal.specs.Journal.{IsBlockSize}
@@ -9,13 +9,13 @@ use Rattle.cms_fields.specs.declared.entry.Entry.{Entry}
 use Rattle.cms_model.specs.Lists.{In, cut}
 use Rattle.cms_model.specs.Trees.{Image, bytes_at}
 use Rattle.cms_model.specs.Volumes.{as_read, blamed, entries_of}
-use Rattle.cms_model.specs.declared.fault.OpenFault.{OpenFault}
 use Rattle.cms_model.specs.declared.fault.OpenFault.TheVariants as failed
 use Rattle.cms_model.proofs.Results.{bind_then, ok_same}
 use Rattle.cms_held.specs.HeldVolumes.{HeldFile}
 use Rattle.cms_held.specs.Renewals.{dropping, entries_held}
 use Rattle.cms_model.specs.DirectoryParts.{all_entries, blocks_with, directory_count, entry_block}
 use Rattle.cms_model.proofs.DirectoryParts.{all_blocks, blocks_ascend, blocks_may, blocks_within, entry_within, first_made, in_blocks, parts, some_blocks}
+use Rattle.cms_model.proofs.OpenedVolumes.{blamed_ok}
 use Rattle.cms_held.specs.SharedBlocks.{AreLong}
 use Rattle.cms_held.specs.EntryPlaces.{AllAreEnough, EntriesByPlace, IsChangedAt, IsReadAs, PlacesAreEnough, entry_at}
 use Rattle.cms_held.proofs.BlockBytes.{piece_by_place}
@@ -29,10 +29,6 @@ clash e = cc
 -- the entry at a place is read in the piece of 64 bytes there
 abbrev pub EachSpelled : ℕ → List ℕ → List Entry → Type 0
 EachSpelled bsize bytes entries = (k : ℕ) (d : Entry) → k < length entries → IsReadAs bsize (take 64 (drop (k * 64) bytes)) (get_or entries k d)
-
-blamed_ok : {A E : Type 0} (why : E → OpenFault) (r : Result A E) (x : A) → blamed why r ≡ Ok x → r ≡ Ok x
-blamed_ok why (Ok y) x e = ap Ok (ok_same y x e)
-blamed_ok why (Err f) x e = absurd (cc)
 
 first_piece : (bsize number n : ℕ) (y : Entry) (ys : List Entry) (bytes : List ℕ) → entries_of bsize number (cut (suc n) 64 bytes) ≡ Ok (y ∷ ys)
     → ((found : Entry) × (entry_of bsize (take 64 bytes) ≡ Ok found) × (as_read found ≡ y)) × (entries_of bsize (number + 1) (cut n 64 (drop 64 bytes)) ≡ Ok ys)

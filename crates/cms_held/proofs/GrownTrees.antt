@@ -173,7 +173,7 @@ pub record LastOf (fan count j : ℕ) (k : ℕ) : Type 0 where
 pub last_in : ℕ → ℕ → ℕ → ℕ
 last_in fan count j = min ((j + 1) * fan) count - 1
 
-next_multiple : (a b : ℕ) → (a + 1) * b ≡ a * b + b
+pub next_multiple : (a b : ℕ) → (a + 1) * b ≡ a * b + b
 next_multiple a b = grind arith
 
 pub below_up : (count fan j : ℕ) → 1 ≤ fan → j < up count fan → j * fan < count

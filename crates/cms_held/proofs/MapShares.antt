@@ -16,6 +16,7 @@ use Rattle.cms_map.specs.Bits.{free_blocks, with_marked}
 use Rattle.cms_map.specs.Touched.{AreTouched, data_block}
 use Rattle.cms_map.proofs.Free.{free_are_unused, length-with_marked}
 use Rattle.cms_tree.specs.Paths.{levels_of, tree_levels}
+use Rattle.cms_model.proofs.DirectoryParts.{in_mapped as in_map}
 use Rattle.cms_held.specs.HeldVolumes.{HeldTree}
 use Rattle.cms_held.specs.Renewals.{blocks_in, with_freed}
 use Rattle.cms_held.proofs.MapMarks.{length_freed}
@@ -42,11 +43,6 @@ pub in_drop : (k : ℕ) (xs : List ℕ) (n : ℕ) → In n (drop k xs) → In n 
 in_drop zero xs n there = there
 in_drop (suc k) [] n there = there
 in_drop (suc k) (x ∷ xs) n there = inr (in_drop k xs n there)
-
-in_map : (f : ℕ → ℕ) (n : ℕ) (xs : List ℕ) → In n xs → In (f n) (map f xs)
-in_map f n [] there = absurd there
-in_map f n (x ∷ xs) (inl is) = inl (ap f is)
-in_map f n (x ∷ xs) (inr more) = inr (in_map f n xs more)
 
 -- a number of which it is the value
 pub record Source (f : ℕ → ℕ) (y : ℕ) (xs : List ℕ) : Type 0 where

@@ -16,20 +16,17 @@ use Rattle.cms_model.proofs.ByLevels.{read_is_heaped}
 use Rattle.cms_model.proofs.Quotients.{up_spec, up_some, up_unique, up_up}
 use Rattle.cms_model.proofs.Shapes.{levels_needs, shape_least, shape_needs}
 use Rattle.cms_model.proofs.SharedTiers.{points_tier, shared_stands, up_one}
-use Rattle.cms_model.proofs.TreeSizes.{length-pointers, tree_has_size}
+use Rattle.cms_model.proofs.TreeSizes.{tree_has_size}
 use Rattle.cms_tree.specs.Builds.{root_of}
 use Rattle.cms_tree.specs.Paths.{levels_of}
 use Rattle.cms_tree.proofs.Paths.{count_first, left_count}
+use Rattle.cms_tree.proofs.Resumes.{length-levels_of as levels_count}
+use Rattle.cms_tree.proofs.Rest.{tiers_deep}
 use Rattle.cms_held.specs.HeldVolumes.{HeldTree}
 use Rattle.cms_held.specs.SharedBlocks.{levels_in}
 use Rattle.cms_held.specs.SharedTrees.{HasShape, IsStanding, LevelsAreRead, ReadStandsByLevels, SharedTreeStands}
 
 -- ---- levels in one list
-
-pub levels_count : (fan size count k : ℕ) (numbers : List ℕ) → length (levels_of fan size count k numbers) ≡ k
-unfolding levels_of
-levels_count fan size count zero numbers = refl
-levels_count fan size count (suc k) numbers = ap suc (levels_count fan (size * fan) count k (drop (up count (size * fan)) numbers))
 
 levels_joined : (fan size count k : ℕ) (numbers : List ℕ) → length numbers ≡ left_count fan size count k → concat (levels_of fan size count k numbers) ≡ numbers
 unfolding levels_of left_count
@@ -187,16 +184,6 @@ below_deep k size below room each (p ∷ ps) (suc n) =
     let here = each p (min (suc n) size) (omega arith) in
     let long = beside_long (below p (min (suc n) size)) (tiers_below below size ps (suc n - size)) in
     (omega arith, λ some any. omega arith)
-
-tiers_deep : (form : Form) (image : Image) → 1 ≤ form.fan → (k root count : ℕ) → 1 ≤ count → length (tiers form image k root count) ≡ k
-unfolding tiers
-tiers_deep form image some zero root count any = refl
-tiers_deep form image some (suc k) root count any =
-    let ps = pointers form.fan form.stride (image root) in
-    let wide : length ps ≡ form.fan = length-pointers form.fan form.stride (image root) in
-    let room = one-le-pow k form.fan some in
-    let deep = (below_deep k (form.fan ^ k) (tiers form image k) room (λ p c more. tiers_deep form image some k p c more) ps count).1 (omega arith) any in
-    length-append (tiers_below (tiers form image k) (form.fan ^ k) ps count) ((root ∷ []) ∷ []) ∙ (omega arith)
 
 -- the levels of a tree, whose pointer blocks are these in one list, up to its root
 pub standing_from : (form : Form) (image : Image) (leaves fresh : List ℕ) (ts : List (List ℕ)) → 2 ≤ form.fan → HasShape form.fan (record { leaves = leaves; pointers = fresh })

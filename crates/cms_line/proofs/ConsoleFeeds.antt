@@ -8,6 +8,7 @@ use Rattle.std.proofs.lemmas.Grind.{common_steps}
 use Rattle.std.proofs.lemmas.List.{take-append-drop}
 use Rattle.cms_machine.specs.Items.{Goes, without_return}
 use Rattle.cms_machine.proofs.ItemsParts.{feed, NoFeed}
+use Rattle.cms_machine.proofs.Whole.{or_first as or_left}
 use Rattle.cms_line.specs.ConsoleSteps.{has_feed, goes_past, begins_in_line}
 
 -- ---- the place of the first line feed
@@ -83,10 +84,6 @@ feed_in : (xs : List ℕ) (n : ℕ) → n < length xs → get_or xs n 0 ≡ 10 �
 feed_in [] n lt e = absurd (omega arith)
 feed_in (x ∷ xs) zero lt e = let t : (x == 10) ≡ true = grind (arith, nat_tests, eqb_tells x 10) in rw t refl
 feed_in (x ∷ xs) (suc n) lt e = let h : has_feed xs ≡ true = feed_in xs n (omega arith) e in rw h (or_true (x == 10))
-
-or_left : (a b : Bool) → (a || b) ≡ false → a ≡ false
-or_left true b e = cc
-or_left false b e = refl
 
 or_right : (a b : Bool) → (a || b) ≡ false → b ≡ false
 or_right true b e = cc

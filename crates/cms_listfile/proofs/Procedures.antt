@@ -59,7 +59,7 @@ gathered_on format size some last t found k x g at is =
     ∙ ap (λ (l : List (List ℕ)). some ++ l) (sym (lines_append format size front one))
     ∙ ap (λ (l : List (List ℕ)). some ++ lines_for format size l) (sym (taken_next (λ (f : Found). line_told last t f) found k x at))) is
 
-take_all : {A : Type 0} (xs : List A) (k : ℕ) → length xs ≤ k → take k xs ≡ xs
+pub take_all : {A : Type 0} (xs : List A) (k : ℕ) → length xs ≤ k → take k xs ≡ xs
 take_all [] zero over = refl
 take_all [] (suc k) over = refl
 take_all (x ∷ xs) zero over = absurd (omega (arith, over))

@@ -1,5 +1,5 @@
 -- Each file that a search finds is there, whatever world the disks are in.
-use Rattle.std.proofs.Common.{◌≡◌, ◌∙◌, ℕ, zero, suc, ◌+◌, ◌<◌, Bool, true, false, cond, List, [], ◌∷◌, length, Result, Ok, Err, refl, sym, ap, subst, arith}
+use Rattle.std.proofs.Common.{◌≡◌, ◌∙◌, ℕ, suc, ◌+◌, ◌<◌, Bool, true, false, cond, List, [], ◌∷◌, length, Result, Ok, Err, refl, sym, ap, subst, arith}
 use Rattle.std.specs.Prelude.{All, Option, Some, None, slice_get}
 use Rattle.std.specs.List.{flat_map}
 use Rattle.std.specs.Option.{option_and_then, option_map, option_map_or}
@@ -14,6 +14,7 @@ use Rattle.cms_search.specs.declared.fault.SearchFault.{SearchFault}
 use Rattle.cms_search.specs.declared.search.Found.{Found}
 use Rattle.cms_search.proofs.Searches.{item_at_map}
 use Rattle.cms_model.proofs.Results.{ok_same}
+use Rattle.cms_search.proofs.Tables.{get_some as some_at}
 use Rattle.cms_listfile.specs.Told.{HasLines, line_told, lines_told, listed_at, listed_on}
 use Rattle.cms_listfile.specs.declared.columns.Columns.{Columns}
 use Rattle.cms_listfile.specs.declared.line.ListedFile.{ListedFile}
@@ -33,11 +34,6 @@ places_below p n (x ∷ xs) =
     let here : n < n + suc (length xs) = omega arith in
     all_if (λ k. k < n + suc (length xs)) (p x) n (places_from p (suc n) xs) here
     (subst (λ (m : ℕ). All (λ k. k < m) (places_from p (suc n) xs)) more (places_below p (suc n) xs))
-
-some_at : {A : Type 0} (xs : List A) (k : ℕ) → k < length xs → (x : A) × (slice_get xs k ≡ Some x)
-some_at [] k less = absurd (omega (arith, less))
-some_at (x ∷ xs) zero less = (x, refl)
-some_at (x ∷ xs) (suc k) less = some_at xs k (omega (arith, less))
 
 -- ---- files
 

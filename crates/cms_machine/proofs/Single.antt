@@ -18,13 +18,11 @@ use Rattle.cms_machine.specs.Beats.{Said, Turned, Took, Did, Asked, Dropped, Onl
 use Rattle.cms_machine.specs.Runs.{Ran, Begun, Broke, begun_syncs}
 use Rattle.cms_machine.proofs.Units.{other_slot}
 use Rattle.cms_journal.proofs.Events.{all_front, of_aside}
+use Rattle.cms_journal.proofs.Counts.{counted_none as not_counted}
 use Rattle.cms_machine.proofs.Aside.{typed_aside, read_aside, of_disk, leaves_aside, now_aside, covers_aside}
 use Rattle.cms_machine.proofs.Join.{ran_one, broke_now, part_none}
 
 -- ---- deeds that know of no unit
-
-not_counted : (before now : ℕ) → before ≤ now → Counted before 0 now
-not_counted before now later = record { later = later; rose = inl (omega (arith, later)) }
 
 same_sets : (p m : Point) (u : ℕ) → m.units ≡ p.units → unit_set m.units u ≡ unit_set p.units u
 same_sets p m u same = ap (λ (units : List Slot). unit_set units u) same

@@ -17,12 +17,12 @@ use Rattle.cms_machine.specs.LawsSteps.{change_events, SyncsAreCounted, RefusedI
 
 -- ---- syncs
 
-no_syncs : (u : ℕ) (ws : List Write) → syncs (writes u ws) ≡ 0
+pub no_syncs : (u : ℕ) (ws : List Write) → syncs (writes u ws) ≡ 0
 unfolding writes
 no_syncs u [] = refl
 no_syncs u (w ∷ ws) = no_syncs u ws
 
-update_count : (u : ℕ) (ws : List Write) (label : List ℕ) → syncs (update u ws label) ≡ 2
+pub update_count : (u : ℕ) (ws : List Write) (label : List ℕ) → syncs (update u ws label) ≡ 2
 unfolding update
 update_count u ws label = syncs-append (writes u ws) (Synced u ∷ Wrote u 3 label ∷ Synced u ∷ []) ∙ ap (λ (n : ℕ). n + 2) (no_syncs u ws)
 

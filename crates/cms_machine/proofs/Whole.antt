@@ -1,5 +1,5 @@
 -- A run from a point, cut off or not: what it adds up to, and the machine on all that was told.
-use Rattle.std.proofs.Common.{◌≡◌, ◌⊎◌, inl, inr, ℕ, ℤ, ◌^◌, ◌+◌, ◌-◌, ◌≤◌, Bool, true, false, ◌||◌, List, [], ◌∷◌, ◌++◌, length, if◌then◌else◌, ◌==◌, Option, Some, None, refl, ap, sym, ◌∙◌, subst, arith, append_assoc, append-nil, length-append, ⊎_elim}
+use Rattle.std.proofs.Common.{◌≡◌, ◌⊎◌, inl, inr, ℕ, ℤ, ◌+◌, ◌-◌, ◌≤◌, Bool, true, false, ◌||◌, List, [], ◌∷◌, ◌++◌, length, if◌then◌else◌, ◌==◌, Option, Some, None, refl, ap, sym, ◌∙◌, subst, arith, append_assoc, append-nil, length-append, ⊎_elim}
 use Rattle.std.proofs.Math.Bool.{or-false, or_assoc}
 use Rattle.cms_journal.specs.declared.event.Event.{Event}
 use Rattle.cms_journal.specs.declared.event.Event.TheVariants.{Read, Now, Typed, Wrote, Synced, Missed}
@@ -20,6 +20,7 @@ use Rattle.cms_machine.specs.Runs.{Ran, Part, Broke, events_of, fed}
 use Rattle.cms_machine.specs.Laws.{AddsUp, FollowsTree, ComesTo}
 use Rattle.cms_machine.proofs.Lists.{lt_or_le, split, split_at, empty_front, no_element, typed-append, script-append, moments-append, over-append}
 use Rattle.cms_journal.proofs.Events.{all_front}
+use Rattle.cms_journal.proofs.Counts.{counted_then}
 use Rattle.cms_machine.proofs.Pieces.{plus_plus, plus-nil, syncs_front, typed_silent, read_silent, disk_silent, read_not_typed, read_not_disk}
 use Rattle.cms_machine.proofs.Units.{beat_sets, units_put}
 use Rattle.cms_machine.proofs.Aside.{leaves_aside, sound_aside, typed_aside, read_aside}
@@ -43,14 +44,6 @@ faults-append (ReadFault j ∷ a) b = let h = faults-append a b in omega (arith,
 faults-append (SyncFault ∷ a) b = let h = faults-append a b in omega (arith, h)
 faults-append (OldFault ∷ a) b = let h = faults-append a b in omega (arith, h)
 faults-append (EitherFault side ∷ a) b = let h = faults-append a b in omega (arith, h)
-
-pub counted_then : (a b c m n : ℕ) → Counted a m b → Counted b n c → Counted a (m + n) c
-counted_then a b c m n x y = record { later = omega (arith, x.later, y.later); rose = go x.rose y.rose }
-  where
-    go : (a + m ≤ b) ⊎ (2 ^ 64 - 1 ≤ b) → (b + n ≤ c) ⊎ (2 ^ 64 - 1 ≤ c) → (a + (m + n) ≤ c) ⊎ (2 ^ 64 - 1 ≤ c)
-    go (inl e) (inl f) = inl (omega (arith, e, f))
-    go (inl e) (inr f) = inr f
-    go (inr e) f = inr (omega (arith, e, y.later))
 
 pub counted_later : (a b c n : ℕ) → Counted a n b → b ≤ c → Counted a n c
 counted_later a b c n x le = record { later = omega (arith, x.later, le); rose = ⊎_elim (λ e. inl (omega (arith, e, le))) (λ e. inr (omega (arith, e, le))) x.rose }
@@ -91,7 +84,7 @@ chain_ended p q (b ∷ bs) chain =
 false_true : (b : Bool) → b ≡ false → b ≡ true → ⊥
 false_true b f t = let e : false ≡ true = sym f ∙ t in cc
 
-or_first : (a b : Bool) → (a || b) ≡ false → a ≡ false
+pub or_first : (a b : Bool) → (a || b) ≡ false → a ≡ false
 or_first true b e = e
 or_first false b e = refl
 

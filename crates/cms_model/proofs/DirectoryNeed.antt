@@ -62,7 +62,7 @@ change_counts name edit (f ∷ fs) = go (same_name name f.name) (change_counts n
     go true rest = refl
     go false rest = ap suc rest
 
-last_counts : (files : List File) → length (last_first files) ≡ length files
+pub last_counts : (files : List File) → length (last_first files) ≡ length files
 unfolding last_first
 last_counts [] = refl
 last_counts (f ∷ fs) = behind f (last_first fs) ∙ ap suc (last_counts fs)
@@ -71,7 +71,7 @@ last_counts (f ∷ fs) = behind f (last_first fs) ∙ ap suc (last_counts fs)
     behind g [] = refl
     behind g (h ∷ hs) = refl
 
-drop_counts : (name : Name) (files : List File) → length (drop_file name files) ≤ length files
+pub drop_counts : (name : Name) (files : List File) → length (drop_file name files) ≤ length files
 unfolding drop_file
 drop_counts name [] = omega arith
 drop_counts name (f ∷ fs) = go (same_name name f.name) (drop_counts name fs)

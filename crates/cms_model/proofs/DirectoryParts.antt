@@ -137,7 +137,7 @@ blocks_may bsize before after place numbers size long there = record {
 
 -- ---- all entries
 
-in_mapped : (f : ℕ → ℕ) (n : ℕ) (xs : List ℕ) → In n xs → In (f n) (map f xs)
+pub in_mapped : (f : ℕ → ℕ) (n : ℕ) (xs : List ℕ) → In n xs → In (f n) (map f xs)
 in_mapped f n [] there = absurd there
 in_mapped f n (x ∷ xs) (inl e) = inl (ap f e)
 in_mapped f n (x ∷ xs) (inr more) = inr (in_mapped f n xs more)

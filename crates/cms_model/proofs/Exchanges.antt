@@ -136,7 +136,7 @@ size_is_exchanged fan before count written wide may =
 
 -- ---- no more than it has
 
-fresh_few : (had : Bool) (size before count : ℕ) (written : List ℕ) (n : ℕ) → fresh_on had size before count written n ≤ n
+pub fresh_few : (had : Bool) (size before count : ℕ) (written : List ℕ) (n : ℕ) → fresh_on had size before count written n ≤ n
 unfolding fresh_on
 fresh_few had size before count written zero = omega arith
 fresh_few had size before count written (suc j) = go (is_kept had size before count written j) (fresh_few had size before count written j)

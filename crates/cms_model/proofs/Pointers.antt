@@ -12,7 +12,7 @@ use Rattle.cms_model.specs.LawsTrees.{Cell, cell_bytes, FitsCell}
 use Rattle.cms_model.proofs.Quotients.{up_spec, up_unique, up_zero}
 use Rattle.cms_model.proofs.TreeFrame.{Walk}
 
-up_less : (c size : ℕ) → 0 < size → 0 < c → up c size ≡ suc (up (c - size) size)
+pub up_less : (c size : ℕ) → 0 < size → 0 < c → up c size ≡ suc (up (c - size) size)
 up_less c size room some =
     let s = up_spec (c - size) size room in
     let s0 = s.0 in let s1 = s.1 in

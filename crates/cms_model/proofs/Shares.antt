@@ -43,7 +43,7 @@ shares bytes met n (suc more) one marked =
 
 -- ---- how many of a list lie in a range
 
-not_eq : (n x : ℕ) → (n ≡ x → ⊥) → bit (n == x) ≡ 0
+pub not_eq : (n x : ℕ) → (n ≡ x → ⊥) → bit (n == x) ≡ 0
 not_eq n x ne = ⊎_elim (λ e. absurd (ne (eqb-true n x e))) (λ e. miss (n == x) e) (cases_Bool (n == x))
 
 never : (x n more : ℕ) → (x < n) ⊎ (n + more ≤ x) → range_times (x ∷ []) n more ≡ 0

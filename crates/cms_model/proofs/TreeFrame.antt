@@ -138,7 +138,7 @@ AllPlaced last first m = (n : ℕ) → In n m.blocks → Place last first n
 pub between : (low high n : ℕ) → is_between low high n ≡ true → (low ≤ n) × (n ≤ high)
 between low high n is = let both = and_parts (nat_le low n) (nat_le n high) is in (leb-true low n both.0, leb-true n high both.1)
 
-allowed_free : (last n : ℕ) → is_allowed last None n ≡ true → (6 ≤ n) × (n ≤ last)
+pub allowed_free : (last n : ℕ) → is_allowed last None n ≡ true → (6 ≤ n) × (n ≤ last)
 unfolding is_allowed
 allowed_free last n is = between 6 last n is
 

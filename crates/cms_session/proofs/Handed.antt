@@ -1,14 +1,10 @@
 -- The objects that a session was handed: their words differ, and one that was dropped is asked no more.
 use Rattle.std.proofs.Common.{◌≡◌, ◌<◌, ℕ, zero, suc, List, [], ◌∷◌, ◌++◌, Some, refl, ap, sym, subst, arith, map, length, slice_get}
-use Rattle.std.specs.List.{IsDistinct}
-use Rattle.std.specs.Str.{bytes_eq}
 use Rattle.cms_machine.specs.Beats.{Asked, Beat, Beats, Chain, Dropped}
-use Rattle.cms_machine.specs.LawsObjects.{AreDistinct}
 use Rattle.cms_machine.specs.Objects.{Object}
 use Rattle.cms_machine.specs.Points.{Point}
 use Rattle.cms_machine.proofs.ObjectsAsked.{asked_answers, asked_no_more, dropped_is_gone, stay_distinct}
-use Rattle.cms_ext.specs.Objects.{Means, object_in, objects_of, words_of}
-use Rattle.cms_ext.specs.declared.list.ExtList.{ExtList}
+use Rattle.cms_ext.specs.Objects.{words_of}
 use Rattle.cms_ext.proofs.Lists.{distinct}
 use Rattle.cms_session.specs.declared.status.Status.{Status}
 use Rattle.cms_session.specs.declared.status.Status.TheVariants.{Done, Usage, Memory, World, Turns}
@@ -20,11 +16,6 @@ use Rattle.cms_session.specs.Laws.{AskedIsItself, DroppedIsLost}
 words_same : {S : Type 0} (seen : S → Object) (xs : List S) → map (λ (s : S). (seen s).word) xs ≡ words_of (map seen xs)
 words_same seen [] = refl
 words_same seen (x ∷ xs) = ap (λ (ws : List (List ℕ)). (seen x).word ∷ ws) (words_same seen xs)
-
-pub objects_differ : {X : Type 0} {T : X → Type 0} (means : Means X T) (l : ExtList X T) → AreDistinct (objects_of means l)
-objects_differ means l =
-    distinct (objects_of means l)
-    (subst (IsDistinct bytes_eq) (words_same (λ s. object_in means s.word s.object) l.seats.items) l.differ)
 
 -- ---- beats in front of one and behind it
 

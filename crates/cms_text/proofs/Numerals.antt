@@ -58,7 +58,7 @@ rest_is first digits = let e : suc (length digits) - 1 ≡ length digits = omega
 same_true : (a b : ℕ) → a ≡ b → (a == b) ≡ true
 same_true a b e = grind (arith, nat_tests)
 
-same_false : (a b : ℕ) → (a ≡ b → ⊥) → (a == b) ≡ false
+pub same_false : (a b : ℕ) → (a ≡ b → ⊥) → (a == b) ≡ false
 same_false a b e = grind (arith, nat_tests)
 
 pub with_minus : (word : Text) → 1 ≤ length word → get_or word 0 0 ≡ 0x60 → negative_of (take (length word - 1) (drop 1 word)) ≡ number_of word

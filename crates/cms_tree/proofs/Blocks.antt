@@ -3,9 +3,6 @@ use Rattle.std.proofs.Common.{◌≡◌, ℕ, ◌≤◌, length, Option, Some, N
 use Rattle.std.specs.Prelude.{IsSomeAnd, slice_get}
 use Rattle.cms_journal.specs.Journal.{Journal, HasBlock, HasBlocks}
 use Rattle.cms_journal.specs.declared.event.Attached.{Attached}
-use Rattle.std.specs.Prelude.{nat_le, true}
-use Rattle.std.proofs.lemmas.Bool.{and_parts, leb-true}
-use Rattle.cms_model.specs.Trees.{is_allowed}
 
 -- a unit with so many blocks has each of them
 pub has_block : (j : Journal) (u last n size : ℕ) → HasBlocks j.units u last size → 6 ≤ n → n ≤ last → HasBlock j.units u n size
@@ -15,7 +12,3 @@ has_block j u last n size has low high = go (slice_get j.units u) has
     go (Some unit) h = let long = h.1 in (h.0, omega arith, omega arith)
     go None h = absurd h
 
--- an allowed pointer
-pub allowed_lies : (last n : ℕ) → is_allowed last None n ≡ true → (6 ≤ n) × (n ≤ last)
-unfolding is_allowed
-allowed_lies last n is = let both = and_parts (nat_le 6 n) (nat_le n last) is in (leb-true 6 n both.0, leb-true n last both.1)

@@ -15,15 +15,15 @@ use Rattle.cms_model.specs.Built.{Node, Points, AllAllowed, Built}
 use Rattle.cms_model.specs.LawsTrees.{cell_bytes, FitsCell}
 use Rattle.cms_model.proofs.BuiltTrees.{built_reads}
 use Rattle.cms_model.proofs.Cuts.{length_cut}
-use Rattle.cms_model.proofs.Pointers.{pointers_read}
+use Rattle.cms_model.proofs.Pointers.{pointers_read, up_less}
 use Rattle.cms_model.proofs.Quotients.{up_spec, up_some, up_zero}
 use Rattle.cms_model.proofs.Shapes.{levels_needs}
+use Rattle.cms_model.proofs.TreeFrame.{allowed_free as allowed_lies}
 use Rattle.cms_tree.specs.declared.types.Mark.{Mark}
 use Rattle.cms_tree.specs.Builds.{Child, marked, level_over, parents, all_over, cell_of, node_bytes, root_of, BuiltIsTree, HasNodes, IsBuildable}
-use Rattle.cms_tree.proofs.Blocks.{allowed_lies}
 use Rattle.cms_tree.proofs.FilledBlocks.{length-cell}
 use Rattle.cms_tree.specs.Levels.{over_count}
-use Rattle.cms_tree.proofs.LevelsBuilt.{all_count, up_less}
+use Rattle.cms_tree.proofs.LevelsBuilt.{all_count}
 
 abbrev pub blocks_of : List Child → List ℕ
 blocks_of cs = map (λ c. c.block) cs

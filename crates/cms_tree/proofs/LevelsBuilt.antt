@@ -8,6 +8,7 @@ use Rattle.cms_model.specs.Lists.{cut}
 use Rattle.cms_model.specs.Sizes.{levels, pointers_to, pointer_count}
 use Rattle.cms_model.proofs.Cuts.{get_or_cut, length_cut}
 use Rattle.cms_model.proofs.Quotients.{up_spec, up_unique, up_up, up_zero, up_some, up_below}
+use Rattle.cms_model.proofs.Pointers.{up_less}
 use Rattle.cms_tree.specs.declared.types.Mark.{Mark}
 use Rattle.cms_tree.specs.Builds.{Child, no_mark, no_child, marked, level_over, parent, parents, all_over, nodes_over}
 use Rattle.cms_tree.specs.Levels.{mark_at, wide_mark, children_from, over_count}
@@ -36,19 +37,6 @@ all_count fan n k some =
     let e : 0 + k ≡ k = omega arith in
     let whole = same_count fan n k 0 some in
     sym (ap (over_count fan k) unit) ∙ (let w : over_count fan k (up n (fan ^ 0)) + 0 ≡ pointers_to fan n (0 + k) = whole in omega (arith, w, ap (pointers_to fan n) e))
-
-pub up_less : (c size : ℕ) → 0 < size → 0 < c → up c size ≡ suc (up (c - size) size)
-up_less c size room some =
-    let s = up_spec (c - size) size room in
-    let s0 = s.0 in let s1 = s.1 in
-    ⊎_elim
-    (λ (less : c < size).
-    let none : c - size ≡ 0 = omega arith in
-    let z : up (c - size) size ≡ 0 = ap (λ (x : ℕ). up x size) none ∙ up_zero size room in
-    let e : suc (up (c - size) size) * size ≡ size = ap (λ (x : ℕ). suc x * size) z ∙ (omega arith) in
-    sym (up_unique c size (suc (up (c - size) size)) room (omega arith) (omega arith)))
-    (λ (le : size ≤ c). sym (up_unique c size (suc (up (c - size) size)) room (omega arith) (omega arith)))
-    (cases_lt c size)
 
 -- ---- children
 

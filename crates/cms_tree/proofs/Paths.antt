@@ -1,5 +1,5 @@
 -- The pointer blocks of a tree that keeps some of those of the tree before.
-use Rattle.std.proofs.Common.{◌≡◌, inl, inr, ⊎_elim, ℕ, zero, suc, ◌+◌, ◌-◌, ◌*◌, ◌^◌, ◌<◌, ◌≤◌, min, Bool, true, false, not, if◌then◌else◌, List, [], ◌∷◌, ◌++◌, length, take, drop, get_or, refl, sym, ◌∙◌, ap, subst, arith, add-one, append_assoc, append-nil, length-append, length-drop, take-suc, take-add, get_or-take, drop_of_length-le, mul-le-mul_right, mul-pos, pow-suc}
+use Rattle.std.proofs.Common.{◌≡◌, inl, inr, ⊎_elim, ℕ, zero, suc, ◌+◌, ◌-◌, ◌*◌, ◌^◌, ◌<◌, ◌≤◌, min, Bool, true, false, not, if◌then◌else◌, List, [], ◌∷◌, ◌++◌, length, take, drop, get_or, refl, sym, ◌∙◌, ap, subst, arith, append_assoc, append-nil, length-append, length-drop, take-suc, take-add, get_or-take, drop_of_length-le, mul-le-mul_right, mul-pos, pow-suc}
 use Rattle.std.specs.Prelude.{◌==◌, ◌&&◌, ◌||◌, nat_le, nat_lt, slice_index}
 use Rattle.std.specs.List.{concat}
 use Rattle.std.specs.List.Sorted.{IsStrictlyIncreasing}
@@ -18,6 +18,8 @@ use Rattle.cms_model.proofs.Quotients.{up_up}
 use Rattle.cms_model.proofs.Shapes.{levels_needs}
 use Rattle.cms_model.proofs.SharedTrees.{within_has}
 use Rattle.cms_model.proofs.SharedTiers.{lies, lies_back, kept_parts, never_kept}
+use Rattle.cms_model.proofs.Exchanges.{to_few as fresh_to_few}
+use Rattle.cms_model.proofs.WrittenBlocks.{rest_ascends as ascends_on}
 use Rattle.cms_tree.specs.Paths.{PathIsShared, PathIsWhole, PathTakesFirst, PathTakesNoMore, PointFresh, levels_of, numbered, paths, places_on, places_to, tree_levels}
 use Rattle.cms_tree.proofs.LevelsBuilt.{up_one}
 use Rattle.cms_tree.proofs.Own.{in_at}
@@ -26,9 +28,6 @@ pub clash : false ≡ true → ⊥
 clash e = cc
 
 -- ---- ascending numbers
-
-ascends_on : (x : ℕ) (xs : List ℕ) → IsStrictlyIncreasing (x ∷ xs) → IsStrictlyIncreasing xs
-ascends_on x xs ascends k less = rw (add-one k) (rw (add-one (suc k)) at (ascends (suc k) (omega arith)))
 
 pub ascends_drop : (n : ℕ) (xs : List ℕ) → IsStrictlyIncreasing xs → IsStrictlyIncreasing (drop n xs)
 ascends_drop zero xs ascends = ascends
@@ -188,15 +187,6 @@ kept_inside true size before count written j some less is = (refl, kept_there si
 kept_inside false size before count written j some less is = absurd (clash (sym (never_kept size before count written j) ∙ is))
 
 -- ---- fresh numbers of a level
-
-pub fresh_few : (had : Bool) (size before count : ℕ) (written : List ℕ) (n : ℕ) → fresh_on had size before count written n ≤ n
-unfolding fresh_on
-fresh_few had size before count written zero = omega arith
-fresh_few had size before count written (suc n) = go (is_kept had size before count written n) (fresh_few had size before count written n)
-  where
-    go : (b : Bool) → fresh_on had size before count written n ≤ n → fresh_on had size before count written n + (if b then 0 else 1) ≤ suc n
-    go true h = omega arith
-    go false h = omega arith
 
 fresh_grows : (had : Bool) (size before count : ℕ) (written : List ℕ) (n d : ℕ) → fresh_on had size before count written n ≤ fresh_on had size before count written (n + d)
 unfolding fresh_on
@@ -537,14 +527,6 @@ power_low fan blocks height wide small low = (levels_needs fan blocks wide small
 
 pub product_fits : (size fan : ℕ) → size < 2 ^ 32 → fan < 2 ^ 32 → size * fan < 2 ^ 64
 product_fits size fan small narrow = let h : size * fan ≤ (2 ^ 32 - 1) * fan = mul-le-mul_right fan (omega arith) in omega arith
-
-fresh_to_few : (fan before count : ℕ) (written : List ℕ) (k : ℕ) → fresh_to fan before count written k ≤ pointers_to fan count k
-unfolding fresh_to pointers_to
-fresh_to_few fan before count written zero = omega arith
-fresh_to_few fan before count written (suc i) =
-    let below = fresh_to_few fan before count written i in
-    let here = fresh_few (nat_le (suc i) (levels fan before)) (fan ^ suc i) before count written (up count (fan ^ suc i)) in
-    omega arith
 
 pub path_takes_no_more : PathTakesNoMore
 unfolding pointer_count

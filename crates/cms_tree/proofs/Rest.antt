@@ -23,6 +23,7 @@ use Rattle.cms_tree.specs.Walks.{nodes}
 use Rattle.cms_tree.specs.Levels.{over_count}
 use Rattle.cms_tree.specs.Parts.{Reading, form_of, onto, met_of, blocks_in, AreMore, IsFaultOf, IsTaken, IsPlain, IsRefusal, JoinsLeaf, JoinsPart}
 use Rattle.std.specs.Prelude.{⊤}
+use Rattle.cms_model.proofs.ByLevels.{beside_none}
 use Rattle.cms_tree.specs.declared.read.Layout.{Layout}
 use Rattle.cms_tree.specs.declared.read.Subtree.{Subtree}
 
@@ -52,10 +53,6 @@ node_refused form image zero first holder root count some bad = absurd (omega ar
 node_refused form image (suc k) first holder root count some bad = rw bad refl
 
 -- ---- side by side
-
-pub beside_none : (xs : List (List ℕ)) → beside xs [] ≡ xs
-beside_none [] = refl
-beside_none (x ∷ xs) = refl
 
 beside_three : (xs ys zs : List (List ℕ)) → beside (beside xs ys) zs ≡ beside xs (beside ys zs)
 beside_three [] ys zs = refl
@@ -98,7 +95,7 @@ abbrev pub whole_tiers : Form → Image → ℕ → ℕ → ℕ → List (List �
 whole_tiers form image k root count = tiers_below (tiers form image k) (form.fan ^ k) (pointers form.fan form.stride (image root)) count
 
 -- a tree of some data blocks has each of its levels
-tiers_deep : (form : Form) (image : Image) → 1 ≤ form.fan → (k root count : ℕ) → 1 ≤ count → length (tiers form image k root count) ≡ k
+pub tiers_deep : (form : Form) (image : Image) → 1 ≤ form.fan → (k root count : ℕ) → 1 ≤ count → length (tiers form image k root count) ≡ k
 unfolding tiers
 tiers_deep form image some zero root count pos = refl
 tiers_deep form image some (suc k) root count pos =

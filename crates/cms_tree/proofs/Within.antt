@@ -5,6 +5,7 @@ use Rattle.std.specs.Prelude.{nat_le}
 use Rattle.std.proofs.lemmas.Bool.{and_parts, leb-true, eqb-true}
 use Rattle.cms_model.specs.Lists.{In}
 use Rattle.cms_model.specs.Trees.{is_allowed}
+use Rattle.cms_model.proofs.Members.{In-either as either, In-left as front_in, In-right as behind_in}
 use Rattle.cms_tree.specs.declared.read.MetBlocks.{MetBlocks}
 use Rattle.cms_tree.specs.Walks.{AreWithin}
 use Rattle.cms_tree.specs.declared.read.Tier.{Tier}
@@ -60,20 +61,6 @@ pub none_within : (last : ℕ) (first : Option ℕ) (met : MetBlocks) → met.bl
 none_within last first met blocks leaves = record { blocks = rw blocks (λ n h. absurd h); leaves = rw leaves (λ n h. absurd h) }
 
 -- ---- level by level
-
-either : (n : ℕ) (xs ys : List ℕ) → In n (xs ++ ys) → In n xs ⊎ In n ys
-either n [] ys is = inr is
-either n (x ∷ xs) ys (inl is) = inl (inl is)
-either n (x ∷ xs) ys (inr more) = ⊎_elim (λ there. inl (inr there)) (λ behind. inr behind) (either n xs ys more)
-
-front_in : (n : ℕ) (xs ys : List ℕ) → In n xs → In n (xs ++ ys)
-front_in n [] ys is = absurd is
-front_in n (x ∷ xs) ys (inl is) = inl is
-front_in n (x ∷ xs) ys (inr more) = inr (front_in n xs ys more)
-
-behind_in : (n : ℕ) (xs ys : List ℕ) → In n ys → In n (xs ++ ys)
-behind_in n [] ys is = is
-behind_in n (x ∷ xs) ys is = inr (behind_in n xs ys is)
 
 -- the blocks of a tree are more on its levels, and lie within
 pub node_grows : (fan last root count k : ℕ) (below below' : List Tier) (top top' : Tier) (old new : MetBlocks) (ts ts' : List Tier) → 1 ≤ fan → 1 ≤ count → count ≤ fan ^ k → length ts ≡ k

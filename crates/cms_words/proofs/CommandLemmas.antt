@@ -34,7 +34,7 @@ pub rows : (ws : List Text) → matches_of cms ws ≡ rows_in ws
 unfolding rows_in
 rows ws = refl
 
-some_kind : (k : ErrorKind) (ks : Kinds) → IsAmong k ks → is_empty ks ≡ false
+pub some_kind : (k : ErrorKind) (ks : Kinds) → IsAmong k ks → is_empty ks ≡ false
 some_kind k [] p = absurd p
 some_kind k (x ∷ xs) p = grind arith
 

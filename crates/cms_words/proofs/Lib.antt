@@ -1,5 +1,5 @@
 mod NumberLemmas
 mod UnitLemmas
 mod UnitLists
-mod CommandLemmas
+pub mod CommandLemmas
 mod ReadingLemmas

@@ -2,7 +2,7 @@
 use Rattle.std.proofs.Common.{◌≡◌, ◌∙◌, ℕ, suc, ◌+◌, ◌-◌, ◌*◌, ◌/◌, ◌%◌, ◌^◌, ◌<◌, ◌≤◌, Bool, true, false, ◌==◌, if◌then◌else◌, List, [], ◌∷◌, ◌++◌, length, map, replicate, All, Option, None, Result, Ok, refl, ap, sym, subst, arith, append-nil, append_assoc, nat_le, nat_lt, ⊎_elim}
 use Rattle.std.specs.List.{AllByRecursion, concat, list_all}
 use Rattle.std.specs.Str.{bytes_eq}
-use Rattle.std.proofs.lemmas.Bool.{and_parts, cases_lt, eq-eqb, eqb-true, le-leb, le-ltb, lt-ltb, cases_Bool}
+use Rattle.std.proofs.lemmas.Bool.{and_parts, cases_lt, eq-eqb, le-leb, le-ltb, lt-ltb}
 use Rattle.std.proofs.lemmas.List.{length_push, take_all}
 use Rattle.std.proofs.lemmas.List.Elements.{All-head, All-tail}
 use Rattle.std.proofs.lemmas.Slice.Eq.{bytes_eq-Decides}
@@ -13,6 +13,7 @@ use Rattle.cms_names.specs.declared.name.Format.{Format}
 use Rattle.cms_names.specs.declared.name.Format.TheVariants.{F, V}
 use Rattle.cms_model.specs.Records.{Fits, with_length}
 use Rattle.cms_records.specs.Views.{fitted}
+use Rattle.cms_text.proofs.Numerals.{same_false as unequal}
 use Rattle.mini_forms.specs.Page.{character_of, code_of}
 use Rattle.mini_forms.specs.Lines.{text_of, utf8, step_of, fresh_step, second_byte}
 use Rattle.mini_forms.specs.Output.{is_line, is_plain, line_of, shown}
@@ -160,9 +161,6 @@ text_back format size codes within fits count stored rest few short =
     ∙ line_back n [] line count stored (10 ∷ rest) (shown_within format codes within) (omega arith)
     ∙ end_back n line count stored rest few (subst (λ (l : List ℕ). stored + stored_size n (length l) ≤ most_bytes) (sym back) short)
     ∙ ap (λ (l : List ℕ). in_front l (read_from (midway (Line n Fresh) [] (count + 1) (stored + stored_size n (length l))) rest)) back
-
-unequal : (a b : ℕ) → (a ≡ b → ⊥) → (a == b) ≡ false
-unequal a b not_same = ⊎_elim (λ (same : (a == b) ≡ true). absurd (not_same (eqb-true a b same))) (λ (is : (a == b) ≡ false). is) (cases_Bool (a == b))
 
 block_more : (n : ℕ) (came bytes : List ℕ) (count stored : ℕ) (rest : List ℕ) → length came + length bytes ≡ n → 0 < length bytes → count < most_records → stored + n ≤ most_bytes
     → read_from (midway (Block n) came count stored) (bytes ++ rest) ≡ in_front (came ++ bytes) (read_from (midway (Block n) [] (count + 1) (stored + n)) rest)

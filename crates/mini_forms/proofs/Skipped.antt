@@ -3,6 +3,7 @@ use Rattle.std.proofs.Common.{◌≡◌, ◌∙◌, ℕ, suc, ◌+◌, ◌<◌, 
 use Rattle.std.specs.List.{list_all}
 use Rattle.std.proofs.lemmas.Bool.{and_parts, lt-ltb}
 use Rattle.std.proofs.lemmas.List.{drop-drop, length-drop, length_push, length-take-le, take-append-drop}
+use Rattle.cms_text.proofs.Numerals.{same_false as unequal}
 use Rattle.mini_forms.specs.Page.{code_of}
 use Rattle.mini_forms.specs.Lines.{fresh_step, is_simple, step_of}
 use Rattle.mini_forms.specs.RecordReads.{Reader, Skips, SkipsFront, begun, block_fed, fed, line_fed, most_of, read_from}
@@ -12,7 +13,6 @@ use Rattle.mini_forms.specs.declared.step.Begun.TheVariants.{Fresh, LowHalf, Hig
 use Rattle.mini_forms.specs.declared.step.Step.{Step}
 use Rattle.mini_forms.specs.declared.step.Step.TheVariants.{Adds, Goes, Ends, NoCharacter}
 use Rattle.mini_forms.proofs.Steps.{goes_on, midway}
-use Rattle.mini_forms.proofs.StayBytes.{unequal}
 
 -- ---- nothing is skipped
 

@@ -3,7 +3,7 @@ use Rattle.std.proofs.Common.{◌≡◌, ◌⊎◌, inl, inr, ◌∙◌, ℕ, su
 use Rattle.std.specs.List.{AllByRecursion, concat, slice_split, onto_first}
 use Rattle.std.specs.Str.{bytes_eq}
 use Rattle.std.specs.Str.Lines.{lines, lines_of_parts, strip_carriage_return}
-use Rattle.std.proofs.lemmas.Bool.{and_parts, eq-eqb, eqb-true, leb-true, lt-ltb, le-ltb, ltb-true, ltb-false, cases_Bool}
+use Rattle.std.proofs.lemmas.Bool.{and_parts, eq-eqb, eqb-true, leb-true, lt-ltb, le-ltb, ltb-true, ltb-false}
 use Rattle.std.proofs.lemmas.List.{length_push, take_all, get_or_push, take-append-le}
 use Rattle.std.proofs.lemmas.List.Splits.{length-slice_split}
 use Rattle.std.proofs.lemmas.Grind.{flat_map-append}
@@ -13,6 +13,7 @@ use Rattle.cms_fields.specs.Steps.{◌>>=◌}
 use Rattle.cms_names.specs.declared.name.Format.{Format}
 use Rattle.cms_names.specs.declared.name.Format.TheVariants.{F, V}
 use Rattle.cms_records.specs.Views.{fitted}
+use Rattle.cms_text.proofs.Numerals.{same_false as not_equal}
 use Rattle.mini_forms.specs.Page.{character_of, code_of, code_page}
 use Rattle.mini_forms.specs.Lines.{text_of, utf8, step_of, fresh_step, return_step, second_byte}
 use Rattle.mini_forms.specs.Output.{line_of, shown, written}
@@ -118,10 +119,6 @@ stripped_one xs =
     let last : slice_index (xs ++ 13 ∷ []) (length xs) ≡ 13 = get_or_push xs 13 0 (length xs) refl in
     let is : (slice_index (xs ++ 13 ∷ []) (length xs) == 13) ≡ true = eq-eqb (slice_index (xs ++ 13 ∷ []) (length xs)) 13 last in
     rw (n, is) (take-append-le (length xs) xs (13 ∷ []) (omega arith) ∙ take_all (length xs) xs (omega arith))
-
--- the bytes of a line's characters
-not_equal : (a b : ℕ) → (a ≡ b → ⊥) → (a == b) ≡ false
-not_equal a b apart = ⊎_elim (λ (same : (a == b) ≡ true). absurd (apart (eqb-true a b same))) (λ (is : (a == b) ≡ false). is) (cases_Bool (a == b))
 
 above : (d : ℕ) → 14 ≤ d → IsInner d
 above d high = (not_equal d 10 (λ (e : d ≡ 10). omega arith), not_equal d 13 (λ (e : d ≡ 13). omega arith))

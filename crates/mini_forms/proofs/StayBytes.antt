@@ -1,8 +1,8 @@
 -- What is written of the records of a host file is that file: bytes joined, and records behind their lengths.
-use Rattle.std.proofs.Common.{◌≡◌, ◌∙◌, ℕ, suc, ◌+◌, ◌-◌, ◌*◌, ◌/◌, ◌%◌, ◌^◌, ◌<◌, ◌≤◌, Bool, true, false, ◌==◌, if◌then◌else◌, List, [], ◌∷◌, ◌++◌, length, map, replicate, All, Option, None, Some, Ok, Err, refl, ap, sym, arith, append-nil, append_assoc, ⊎_elim}
+use Rattle.std.proofs.Common.{◌≡◌, ◌∙◌, ℕ, suc, ◌+◌, ◌-◌, ◌*◌, ◌/◌, ◌%◌, ◌^◌, ◌<◌, ◌≤◌, Bool, true, false, ◌==◌, if◌then◌else◌, List, [], ◌∷◌, ◌++◌, length, map, replicate, All, Option, None, Some, Ok, Err, refl, ap, sym, arith, append-nil, append_assoc}
 use Rattle.std.specs.Int.{bytes_high_first}
 use Rattle.std.specs.List.{AllByRecursion, concat}
-use Rattle.std.proofs.lemmas.Bool.{eq-eqb, eqb-true, leb-true, cases_Bool}
+use Rattle.std.proofs.lemmas.Bool.{eq-eqb, eqb-true, leb-true}
 use Rattle.std.proofs.lemmas.List.{length_push, take_all}
 use Rattle.std.proofs.lemmas.List.Elements.{All-head, All-tail}
 use Rattle.cms_fields.specs.Steps.{◌>>=◌}
@@ -11,15 +11,13 @@ use Rattle.cms_records.specs.Views.{fitted}
 use Rattle.mini_forms.specs.RecordReads.{block_fed, counted, ended_at, ends, is_length, read_from, stored_fed, stored_size, whole_in}
 use Rattle.mini_forms.specs.Laws.{BinaryStays, RecordsStay}
 use Rattle.cms_names.specs.declared.name.Format.TheVariants.{F, V}
+use Rattle.cms_text.proofs.Numerals.{same_false as unequal}
 use Rattle.mini_forms.specs.declared.form.FormFault.TheVariants.{BadLength}
 use Rattle.mini_forms.specs.declared.place.Head.{Head}
 use Rattle.mini_forms.specs.declared.place.Head.TheVariants.{Start, High, Left}
 use Rattle.mini_forms.specs.declared.place.Place.TheVariants.{Block, Stored}
 use Rattle.mini_forms.proofs.Steps.{behind, go, midway, next_byte, same_bound}
 use Rattle.mini_forms.proofs.Stay.{none_last, one_last, one_then}
-
-pub unequal : (a b : ℕ) → (a ≡ b → ⊥) → (a == b) ≡ false
-unequal a b apart = ⊎_elim (λ (same : (a == b) ≡ true). absurd (apart (eqb-true a b same))) (λ (is : (a == b) ≡ false). is) (cases_Bool (a == b))
 
 differs : (a b : ℕ) → (a == b) ≡ false → a ≡ b → ⊥
 differs a b apart same = let e : (a == b) ≡ true = eq-eqb a b same in cc

@@ -1,6 +1,6 @@
 -- Commands that get arguments and subcommands.
 use Rattle.std.proofs.Common.{◌≡◌, ◌∙◌, ℕ, Bor, ◌+◌, ◌<◌, ◌≤◌, Bool, false, true, List, [], ◌∷◌, ◌++◌, length, get_or, map, take, ap, ap₂, arith, refl, subst, suc, sym, zero}
-use Rattle.std.specs.Prelude.{◌&&◌, not, IsSomeAnd, Option, None, Some}
+use Rattle.std.specs.Prelude.{◌&&◌, not, Some}
 use Rattle.std.proofs.lemmas.Bool.{and_parts}
 use Rattle.std.proofs.lemmas.List.{take_all, take_more}
 use Rattle.clap.specs.Simple.{app_of_fields, on_top}
@@ -9,7 +9,6 @@ use Rattle.clap.specs.declared.builder.command.Command.TheViews.{out-Command}
 use Rattle.clap.specs.declared.builder.action.ArgAction.TheVariants.{SetTrue}
 use Rattle.clap.specs.declared.builder.arg.Arg.{Arg}
 use Rattle.clap.specs.declared.builder.command.Command.{Command}
-use Rattle.clap.specs.declared.builder.range.ValueRange.{ValueRange}
 use Rattle.mini_words.proofs.Each.{one_taken}
 use Rattle.mini_words.specs.Commands.{HasForm, are_plain, form_for, rule_for, with_forms, with_rules}
 use Rattle.mini_words.specs.declared.command_form.Argument.{Argument}
@@ -108,11 +107,3 @@ is_flag old new e = ap rule_of e
 pub has_help : (old new : Arg) (help : Bor Text) → new ≡ record old { help = Some help } → rule_of new ≡ rule_of old
 has_help old new help e = ap rule_of e
 
--- what `num_args` makes of a rule
-pub num_args_rule : (a b : Arg) (range : ValueRange) → b ≡ record a { num_vals = b.num_vals } → IsSomeAnd b.num_vals (λ r. r ≡ range)
-    → rule_of b ≡ record (rule_of a) { range = Some range }
-num_args_rule a b range e is = ap rule_of e ∙ ap (λ (r : Option ValueRange). record (rule_of a) { range = r }) (some b.num_vals is)
-  where
-    some : (o : Option ValueRange) → IsSomeAnd o (λ r. r ≡ range) → o ≡ Some range
-    some None h = absurd h
-    some (Some r) h = ap (λ (x : ValueRange). Some x) h

@@ -1,13 +1,13 @@
 -- What clap says of the words, in the words of the commands' forms.
-use Rattle.std.proofs.Common.{◌≡◌, ◌∙◌, ◌⊎◌, List, [], ◌∷◌, true, false, refl, sym, ap, ap₂, inl, inr, arith}
-use Rattle.std.specs.Prelude.{Option, None, Some, Result, Ok, Err, IfOk, IfErr}
+use Rattle.std.proofs.Common.{◌≡◌, ◌∙◌, ◌⊎◌, List, [], true, false, refl, sym, ap, ap₂, inl, inr}
+use Rattle.std.specs.Prelude.{Option, None, Some, Err}
 use Rattle.std.specs.Option.{option_map}
 use Rattle.clap.specs.Walk.{is_empty}
-use Rattle.clap.specs.Words.{FailsBy, HasKind, IsAmong, Kinds, Row, Text, fault_of, is_simple, is_simple_and_free, kind_of, subcommand_name_of, subcommand_of, subcommand_rows_of}
+use Rattle.clap.specs.Words.{HasKind, Row, Text, fault_of, is_simple, is_simple_and_free, kind_of, subcommand_name_of, subcommand_of, subcommand_rows_of}
 use Rattle.clap.specs.declared.error.Error.{Error}
-use Rattle.clap.specs.declared.error.kind.ErrorKind.{ErrorKind}
 use Rattle.clap.specs.declared.error.kind.ErrorKind.TheVariants.{OutOfMemory}
 use Rattle.clap.specs.declared.parser.matches.ArgMatches.{ArgMatches}
+use Rattle.cms_words.proofs.CommandLemmas.{some_kind}
 use Rattle.mini_words.specs.Commands.{are_taken, check_form, command_in, dump_form, erase_form, get_form, info_form, list_form, make_form, minidisk, put_form, rename_form}
 use Rattle.mini_words.specs.Requests.{all_asked_by, requests_of}
 use Rattle.mini_words.specs.declared.fault.WordFault.TheVariants.{NoCommand}
@@ -28,22 +28,10 @@ pub found : (ws : List Text) → subcommand_of minidisk ws ≡ command_in ws
 unfolding command_in
 found ws = refl
 
-some_kind : (k : ErrorKind) (ks : Kinds) → IsAmong k ks → is_empty ks ≡ false
-some_kind k [] p = absurd p
-some_kind k (x ∷ xs) p = grind arith
-
 pub refused : (ws : List Text) (e : Error) → HasKind (fault_of minidisk ws) e → (kind_of e ≡ OutOfMemory) ⊎ (are_taken ws ≡ false)
 unfolding are_taken
 refused ws e (inl m) = inl m
 refused ws e (inr k) = inr (some_kind (kind_of e) (fault_of minidisk ws) k)
-
-pub fails_ok : {T : Type 0} (r : Result T Error) (ks : Kinds) → FailsBy ks r → IfOk r (λ _. ks ≡ [])
-fails_ok (Ok x) ks h = h
-fails_ok (Err e) ks h = tt
-
-pub fails_err : {T : Type 0} (r : Result T Error) (ks : Kinds) → FailsBy ks r → IfErr r (λ e. HasKind ks e)
-fails_err (Ok x) ks h = tt
-fails_err (Err e) ks h = h
 
 -- ---- the command below
 

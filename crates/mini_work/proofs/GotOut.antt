@@ -1,5 +1,5 @@
 -- Files that are got, of the calls that are made.
-use Rattle.std.proofs.Common.{◌≡◌, ◌⊎◌, inl, inr, ◌∙◌, ℕ, zero, suc, ◌+◌, ◌≤◌, true, false, List, [], ◌∷◌, ◌++◌, length, take, slice_get, Option, Some, None, Result, Ok, Err, IfOk, OnOk, refl, ap, sym, subst, append_assoc, arith}
+use Rattle.std.proofs.Common.{◌≡◌, ◌⊎◌, inl, inr, ◌∙◌, ℕ, ◌+◌, ◌≤◌, true, false, List, [], ◌∷◌, ◌++◌, length, take, slice_get, Option, Some, None, Result, Ok, Err, IfOk, OnOk, refl, ap, sym, subst, append_assoc}
 use Rattle.std.specs.Prelude.{option_map}
 use Rattle.std.specs.List.{list_any}
 use Rattle.std.specs.Str.{bytes_eq}
@@ -15,6 +15,7 @@ use Rattle.mini_words.specs.declared.request.Get.{Get}
 use Rattle.mini_words.specs.declared.request.Target.{Target}
 use Rattle.mini_words.specs.declared.request.Target.TheVariants as targets
 use Rattle.cms_held.specs.HeldVolumes.{names_in}
+use Rattle.cms_listfile.proofs.Procedures.{take_all as take_past}
 use Rattle.mini_work.specs.ChosenFiles.{chosen, idle_status}
 use Rattle.mini_work.specs.CommandActs.{Act, Asked, Came, Continues, Cut, Denied, Did, Goes, Kept, Said, both, none, one}
 use Rattle.mini_work.specs.Gets.{HasNoFolder, Hosts, IsBarred, IsGetting, IsGotBy, IsGotEach, IsGotTo, IsHanded, IsJoined, IsTyped, OnHost, files_after, folder_of}
@@ -159,12 +160,6 @@ denied_only P (Err why) is = tt
 pub host_none : {A : Type 0} (P : A → Status → Minidisk → List Act → Minidisk → List Act → Type 0) (h : Option Files) (told : Told) (d : Accessed)
     → Continues (OnHost h h (Goes P [])) told d told d (Ok status.Done)
 host_none P h told d = λ start first m acts came. (m, acts, (none m acts, hosts_still h h acts refl), came)
-
-pub take_past : {A : Type 0} (xs : List A) (k : ℕ) → length xs ≤ k → take k xs ≡ xs
-take_past [] zero few = refl
-take_past [] (suc k) few = refl
-take_past (x ∷ xs) zero few = absurd (omega (arith, few))
-take_past (x ∷ xs) (suc k) few = ap (λ ys. x ∷ ys) (take_past xs k (omega (arith, few)))
 
 pub host_done : {A : Type 0} (P : A → Status → Minidisk → List Act → Minidisk → List Act → Type 0) (xs : List A) (k : ℕ) (s : Status)
     (h l : Option Files) (old new : Told) (d e : Accessed) → length xs ≤ k → Continues (OnHost h l (Goes P (take k xs))) old d new e (Ok s)

@@ -25,14 +25,6 @@ reads_next old told first c next some b same file is reads = λ j left at has.
     (subst (λ (u : ℕ). HandsOut (now j u) next left (Ok some)) file.unit
     (reads j (same ∙ at) left (subst (λ (u : ℕ). HasLeft (now j u) c left) (sym file.unit) has)))
 
-pub same_then : (a b c : Cursor) → SameFile a b → SameFile b c → SameFile a c
-same_then a b c p q = record {
-  unit = q.unit ∙ p.unit;
-  total = q.total ∙ p.total;
-  bsize = q.bsize ∙ p.bsize;
-  leaves = q.leaves ∙ p.leaves;
-  fixed = q.fixed ∙ p.fixed;
-  longest = q.longest ∙ p.longest;
 }
 
 pub same_file : (c : Cursor) → SameFile c c

@@ -10,7 +10,7 @@ use Rattle.cms_held.proofs.Drafted.{fan_is}
 use Rattle.cms_draft.specs.declared.begun.Begun.{Begun}
 use Rattle.cms_edf.specs.Growths.{IsBegunOf, IsReadFault, resume_fault, unread_fault}
 use Rattle.cms_edf.proofs.Begun.{begun_of, file_block, in_place, resumed_as}
-use Rattle.cms_edf.proofs.GrownNumbers.{kept_at}
+use Rattle.cms_held.proofs.AddCarried.{kept_at}
 use Rattle.cms_edf.proofs.Exits.{ok_at_err, err_at_err, reads_at_ok, reads_then, turned_at_err}
 use Rattle.std.proofs.lemmas.Map.Entries.{length-values_of}
 use Rattle.cms_edf.specs.declared.growth.MoreFault.{MoreFault}

@@ -15,7 +15,7 @@ use Rattle.cms_edf.specs.FileDrafts.{entry_for}
 use Rattle.cms_edf.specs.Growths.{IsGrowthOf, IsMoreRefused, more_fault}
 use Rattle.cms_edf.proofs.DraftPlanned.{places_with, limits}
 use Rattle.cms_edf.proofs.Grown.{behind_ascends, behind_may, grown_count, grown_plan, grown_small, more_refused}
-use Rattle.cms_edf.proofs.GrownNumbers.{kept_at}
+use Rattle.cms_held.proofs.AddCarried.{kept_at}
 use Rattle.cms_edf.proofs.Exits.{ok_at_err, err_at_err}
 use Rattle.std.proofs.Math.Nat.{mul-le-mul_left}
 use Rattle.std.proofs.lemmas.Map.Entries.{length-values_of}

@@ -1,7 +1,7 @@
 use Rattle.std.proofs.Common.{inl, inr}
 use Rattle.cms_world.specs.Seen.{seen}
+use Rattle.cms_ext.proofs.Lists.{list_distinct as objects_differ}
 use Rattle.cms_session.proofs.Ends.{on_units}
-use Rattle.cms_session.proofs.Handed.{objects_differ}
 use Rattle.cms_session.proofs.top.run_words.Goals as goal
 
 pub returns-in-Ok-clause-headline : goal.returns-in-Ok-clause-headline

@@ -7,11 +7,12 @@ use Rattle.cms_journal.specs.Journal.{contents_of}
 use Rattle.cms_text.specs.Bytes.{word}
 use Rattle.cms_model.specs.Trees.{image_of, tree}
 use Rattle.cms_model.specs.ByLevels.{beside, tiers}
+use Rattle.cms_model.proofs.TreeFrame.{allowed_free as allowed_lies}
 use Rattle.cms_tree.specs.declared.read.Tier.{Tier}
 use Rattle.cms_tree.specs.declared.types.TreeFault.{TreeFault}
 use Rattle.cms_tree.specs.Parts.{form_of, met_of, onto, blocks_in, Grows, IsFaultOf}
 use Rattle.cms_tree.proofs.Sums.{power_below, room_first, room_left, no_room}
-use Rattle.cms_tree.proofs.Blocks.{has_block, allowed_lies}
+use Rattle.cms_tree.proofs.Blocks.{has_block}
 use Rattle.cms_tree.proofs.Rest.{leaf_joins, node_refusal, node_plain, starts, goes_on, refusal_passes, node_joins}
 use Rattle.cms_tree.proofs.Within.{taken_within, part_within, node_grows, grows_both, grows_none}
 use Rattle.cms_tree.proofs.read.+walk_from.Goals as goal

@@ -1,8 +1,9 @@
 use Rattle.std.proofs.Common.{◌≡◌, ◌+◌, ◌*◌, min, ℕ, append-nil, refl, sym, ◌∙◌, ap, arith}
 use Rattle.cms_fields.specs.Numbers.{up}
 use Rattle.cms_model.specs.SharedTrees.{is_kept, fresh_on}
+use Rattle.cms_model.proofs.Exchanges.{fresh_few}
 use Rattle.cms_tree.specs.Paths.{numbered}
-use Rattle.cms_tree.proofs.Paths.{clash, fresh_few, fresh_next, fresh_room, kept_by_rest, kept_inside, numbered_next}
+use Rattle.cms_tree.proofs.Paths.{clash, fresh_next, fresh_room, kept_by_rest, kept_inside, numbered_next}
 use Rattle.cms_tree.proofs.shared_level.number_level.Goals as goal
 use Rattle.cms_tree.proofs.shared_level.number_level.Goals.{then-not-kept, else-not-kept}
 

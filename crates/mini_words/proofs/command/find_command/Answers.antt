@@ -1,7 +1,8 @@
 use Rattle.std.proofs.Common.{◌∙◌, ap, subst, map}
 use Rattle.std.proofs.lemmas.Result.{IfErr-weaker, IfOk-weaker}
 use Rattle.clap.specs.Words.{App, FailsBy, app_of, fault_of, is_simple, is_simple_and_free, subcommand_of}
-use Rattle.mini_words.proofs.Parsed.{fails_err, fails_ok, found, free, refused, simple, taken}
+use Rattle.cms_words.proofs.CommandLemmas.{fails_err, fails_ok}
+use Rattle.mini_words.proofs.Parsed.{found, free, refused, simple, taken}
 use Rattle.mini_words.proofs.command.find_command.Goals as goal
 
 pub returns : goal.returns

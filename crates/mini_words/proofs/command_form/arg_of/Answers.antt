@@ -3,8 +3,9 @@ use Rattle.std.specs.Prelude.{Bool, true, Some}
 use Rattle.clap.specs.Words.{Rule, new_rule, rule_of}
 use Rattle.clap.specs.declared.builder.action.ArgAction.TheVariants.{SetTrue}
 use Rattle.clap.specs.declared.builder.arg.Arg.{Arg}
+use Rattle.cms_words.proofs.CommandLemmas.{num_args_rule}
 use Rattle.mini_words.specs.Commands.{any_rule, many_rule, rule_by}
-use Rattle.mini_words.proofs.Forms.{has_help, has_letter, is_flag, is_needed, num_args_rule}
+use Rattle.mini_words.proofs.Forms.{has_help, has_letter, is_flag, is_needed}
 use Rattle.mini_words.proofs.command_form.arg_of.Goals as goal
 
 pub returns-in-Value-clause-rule : goal.returns-in-Value-clause-rule

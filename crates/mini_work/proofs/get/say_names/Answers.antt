@@ -3,12 +3,12 @@ use Rattle.std.proofs.Common.{List, length, refl, take, Ok, subst, sym}
 use Rattle.std.proofs.lemmas.Option.{slice_get_read}
 use Rattle.std.proofs.lemmas.Result.{err_from_is_err_and}
 use Rattle.cms_names.specs.declared.name.Name.{Name}
+use Rattle.cms_listfile.proofs.Procedures.{take_all as take_past}
 use Rattle.mini_work.specs.Changes.{IsTold}
 use Rattle.mini_work.specs.CommandActs.{Continues}
 use Rattle.mini_work.specs.Gets.{AreSaid}
 use Rattle.mini_work.specs.Output.{name_line}
 use Rattle.mini_work.specs.declared.status.Status.TheVariants.{Done}
-use Rattle.mini_work.proofs.GotOut.{take_past}
 use Rattle.mini_work.proofs.KeptOut.{names_more, names_none}
 use Rattle.mini_work.proofs.Listed.{take_more}
 use Rattle.mini_work.proofs.PartsJoined.{cut_any, goes_cut}

@@ -4,10 +4,10 @@ use Rattle.std.proofs.Common.{◌∙◌, ◌++◌, ◌∷◌, [], List, length, 
 use Rattle.std.proofs.lemmas.Option.{slice_get_read}
 use Rattle.cms_journal.specs.Told.{Told}
 use Rattle.cms_names.specs.declared.name.Name.{Name}
+use Rattle.cms_listfile.proofs.Procedures.{take_all as take_past}
 use Rattle.mini_work.specs.Gets.{WritesAll}
 use Rattle.mini_work.specs.Stands.{Stands}
 use Rattle.mini_work.specs.declared.status.Status.{Status}
-use Rattle.mini_work.proofs.GotOut.{take_past}
 use Rattle.mini_work.proofs.Hosted.{same_then}
 use Rattle.mini_work.proofs.KeptOut.{writes_first}
 use Rattle.mini_work.proofs.Listed.{take_more}

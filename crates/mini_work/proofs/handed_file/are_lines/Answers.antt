@@ -3,7 +3,8 @@ use Rattle.mini_work.specs.Faults.{fault_of}
 use Rattle.std.proofs.Common.{◌≡◌, ◌∙◌, true, false, rules, ap, refl, sym}
 use Rattle.mini_forms.specs.Output.{is_line}
 use Rattle.cms_disk.specs.Cursors.{text_of}
-use Rattle.mini_work.proofs.ReadOn.{lines_all, lines_broken, lines_first, lines_next, reads_next, same_file, same_then, read_sound}
+use Rattle.cms_search.proofs.HandedRecords.{same_then}
+use Rattle.mini_work.proofs.ReadOn.{lines_all, lines_broken, lines_first, lines_next, reads_next, same_file, read_sound}
 use Rattle.mini_work.proofs.handed_file.are_lines.Goals as goal
 
 pub records-init : goal.records-init

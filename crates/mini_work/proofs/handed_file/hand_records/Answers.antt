@@ -7,11 +7,12 @@ use Rattle.cms_journal.specs.Told.{Grown, Told}
 use Rattle.cms_journal.proofs.Pieces.{grown_same, grown_then}
 use Rattle.cms_disk.specs.Cursors.{text_of, HasLeft}
 use Rattle.mini_forms.specs.Output.{one_written, written}
+use Rattle.cms_search.proofs.HandedRecords.{same_then}
 use Rattle.mini_work.specs.HandedFiles.{PutsOut, PutsPart}
 use Rattle.mini_work.proofs.Handed.{grown_put, puts_all, puts_broken, puts_first, puts_next, puts_stopped}
 use Rattle.mini_work.proofs.HandedOut.{blocks_grown, blocks_same, files_put, puts_failed}
 use Rattle.mini_work.proofs.Hosted.{same_then as files_then}
-use Rattle.mini_work.proofs.ReadOn.{reads_next, same_file, same_then, read_sound}
+use Rattle.mini_work.proofs.ReadOn.{reads_next, same_file, read_sound}
 use Rattle.mini_work.proofs.handed_file.hand_records.Goals as goal
 
 pub records-init : goal.records-init
