@@ -1,5 +1,5 @@
 // The options of a command.
-ghost use Rattle.std.specs.Prelude.{◌≡◌, ◌+◌, ◌<◌, [], length, drop, IfOk, IfSome, position};
+ghost use Rattle.std.specs.Prelude.{◌≡◌, ◌+◌, ◌<◌, ◌^◌, [], length, drop, IfOk, IfSome, OnOk, position};
 ghost use Rattle.cms_line.specs.Options.{options_of, options_from, missing, first_left, is_right, is_left, is_named, AnswersOptions};
 
 use crate::words::{LEFT, RIGHT};
@@ -89,6 +89,18 @@ fn first_right(words: &[Token]) -> Option<usize>
     words.iter().position(is_right)
 }
 
+// Each place among so many has a smaller number; no memory holds so many that it has none.
+fn are_few(rules: &[OptionRule], words: &[Token]) -> Result<(), AllocError>
+    ensures rules { OnOk result (length rules.now < 2 ^ 32) }
+    ensures words { OnOk result (length words.now < 2 ^ 32) }
+{
+    if rules.len() <= u32::MAX as usize && words.len() <= u32::MAX as usize {
+        Ok(())
+    } else {
+        Err(AllocError)
+    }
+}
+
 // A place as a smaller number; no memory holds so many words that it has none.
 fn number_of(place: usize) -> Result<u32, AllocError>
     ensures { IfOk result (λ number. number ≡ place) }
@@ -120,26 +132,27 @@ fn read_options(
         options_from rules.now 0 (left + 1) (drop (left + 1) words.now)
         ≡ record { chosen = chosen.new; refused = refused }) }
 {
+    are_few(rules, words)?;
     let mut place = left + 1;
     while let Some(word) = words.get(place) {
         let next = place + 1;
         if is_right(word) {
             return if next < words.len() {
-                Ok(Some(OptionFault::After(number_of(next)?)))
+                Ok(Some(OptionFault::After(next as u32)))
             } else {
                 Ok(None)
             };
         }
         let Some(nth) = rule_of(rules, word.text.bytes()) else {
-            return Ok(Some(OptionFault::Unknown(number_of(place)?)));
+            return Ok(Some(OptionFault::Unknown(place as u32)));
         };
         let takes = rules[nth].takes;
         if let Some(gone) = missing(&words[next..], takes) {
             return Ok(Some(OptionFault::Missing(number_of(next + gone)?)));
         }
         chosen.push(Choice {
-            nth: number_of(nth)?,
-            next: number_of(next)?,
+            nth: nth as u32,
+            next: next as u32,
         })?;
         place = next + usize::from(takes);
     }

@@ -9,14 +9,14 @@ use Rattle.cms_line.proofs.choices.read_options.Goals as goal
 pub loop-word-init : goal.loop-word-init
 loop-word-init c = begun c.args.rules.now c.args.chosen.now (c.args.left + 1) (drop (c.args.left + 1) c.args.words.now) c.requires.none
 
-pub returns-in_ok-number_of : goal.returns-in_ok-number_of
-returns-in_ok-number_of c =
+pub returns-then-next-words : goal.returns-then-next-words
+returns-then-next-words c =
     let place = c.loop-word.place in
     let words = c.args.words.now in
     let word = c.in-Some.word.now in
     let some : 0 < length (drop (place + 1) words) = omega (arith, length-drop (place + 1) words) in
-    stands_after _ _ c.loop-word.chosen place c.in_ok-number_of.field-0 word (drop (place + 1) words)
-    (at_word _ _ _ place words word c.in-Some.ensures.lookup.0 c.in-Some.ensures.lookup.1 c.loop-word.invariant) (sym c.if-is_right.ensures) some c.in_ok-number_of.ensures
+    stands_after _ _ c.loop-word.chosen place (place + 1) word (drop (place + 1) words)
+    (at_word _ _ _ place words word c.in-Some.ensures.lookup.0 c.in-Some.ensures.lookup.1 c.loop-word.invariant) (sym c.if-is_right.ensures) some refl
 
 pub returns-else-next-words : goal.returns-else-next-words
 returns-else-next-words c =
@@ -33,8 +33,8 @@ returns-in_default-rule_of c =
     let word = c.in-Some.word.now in
     let rules = c.args.rules.now in
     let unknown : position (is_named word.text) rules ≡ None = ap (λ (w : List ℕ). position (is_named w) rules) (sym c.bytes.ensures.bytes) ∙ sym c.in_default-rule_of.ensures in
-    is_unknown rules _ c.loop-word.chosen place c.in_ok-number_of-2.field-0 word (drop (place + 1) words)
-    (at_word _ _ _ place words word c.in-Some.ensures.lookup.0 c.in-Some.ensures.lookup.1 c.loop-word.invariant) (sym c.if-is_right.ensures) unknown c.in_ok-number_of-2.ensures
+    is_unknown rules _ c.loop-word.chosen place place word (drop (place + 1) words)
+    (at_word _ _ _ place words word c.in-Some.ensures.lookup.0 c.in-Some.ensures.lookup.1 c.loop-word.invariant) (sym c.if-is_right.ensures) unknown refl
 
 pub returns-in-Some-missing : goal.returns-in-Some-missing
 returns-in-Some-missing c =
@@ -46,8 +46,8 @@ returns-in-Some-missing c =
     let takes = takes_of rules nth in
     let known : position (is_named word.text) rules ≡ Some nth = ap (λ (w : List ℕ). position (is_named w) rules) (sym c.bytes.ensures.bytes) ∙ sym c.in-Some-rule_of.ensures in
     let gone : missing takes (drop (place + 1) words) ≡ Some c.in-Some-missing.gone = ap (missing takes) (sym (take_rest words (place + 1))) ∙ sym c.in-Some-missing.ensures in
-    lacks rules _ c.loop-word.chosen place nth takes c.in-Some-missing.gone c.in_ok-number_of-3.field-0 word (drop (place + 1) words)
-    (at_word _ _ _ place words word c.in-Some.ensures.lookup.0 c.in-Some.ensures.lookup.1 c.loop-word.invariant) (sym c.if-is_right.ensures) known refl gone c.in_ok-number_of-3.ensures
+    lacks rules _ c.loop-word.chosen place nth takes c.in-Some-missing.gone c.in_ok-number_of.field-0 word (drop (place + 1) words)
+    (at_word _ _ _ place words word c.in-Some.ensures.lookup.0 c.in-Some.ensures.lookup.1 c.loop-word.invariant) (sym c.if-is_right.ensures) known refl gone c.in_ok-number_of.ensures
 
 pub loop-word-preserved : goal.loop-word-preserved
 loop-word-preserved c =
@@ -59,10 +59,10 @@ loop-word-preserved c =
     let takes = takes_of rules nth in
     let known : position (is_named word.text) rules ≡ Some nth = ap (λ (w : List ℕ). position (is_named w) rules) (sym c.bytes.ensures.bytes) ∙ sym c.in-Some-rule_of.ensures in
     let none : missing takes (drop (place + 1) words) ≡ None = ap (missing takes) (sym (take_rest words (place + 1))) ∙ sym c.in_default-missing.ensures in
-    let choice : Choice = record { nth = c.in_ok-number_of-4.field-0; next = c.in_ok-number_of-5.field-0 } in
+    let choice : Choice = record { nth = nth; next = place + 1 } in
     goes_on rules _ c.loop-word.chosen c.push.new.self place nth takes (place + 1 + c.from.result) choice word words
     (at_word _ _ _ place words word c.in-Some.ensures.lookup.0 c.in-Some.ensures.lookup.1 c.loop-word.invariant) (sym c.if-is_right.ensures) known refl none
-    c.in_ok-number_of-4.ensures c.in_ok-number_of-5.ensures c.in_ok-push.ensures.ok (ap (λ (n : ℕ). place + 1 + n) c.from.ensures)
+    refl refl c.in_ok-push.ensures.ok (ap (λ (n : ℕ). place + 1 + n) c.from.ensures)
 
 pub returns : goal.returns
 returns c =
