@@ -79,10 +79,7 @@ pub fn expansion_laws()
 pub fn is_plain(word: &[u8]) -> bool
     ensures { result ≡ (ampersands word.now == 0) }
 {
-    match split_at_last_ampersand(word) {
-        Some(_) => false,
-        None => true,
-    }
+    split_at_last_ampersand(word).is_none()
 }
 
 /// What stands before the last ampersand of a word, and what stands behind it.
