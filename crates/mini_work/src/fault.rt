@@ -4,7 +4,7 @@ use mini_host::Refusal;
 use std::alloc::AllocError;
 
 /// Why a command ends before its end.
-#[derive(Clone, Copy, Debug)]
+#[derive(Clone, Copy)]
 pub(crate) enum Fault {
     /// there is no memory
     Memory,

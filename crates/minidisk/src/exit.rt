@@ -6,7 +6,7 @@ use clap::Error;
 use clap::error::ErrorKind;
 
 /// How the program ends.
-#[derive(Clone, Copy, PartialEq, Eq)]
+#[derive(Clone, Copy)]
 pub enum Exit {
     /// all was done
     Done,
