@@ -22,9 +22,7 @@ use crate::subcommand::send;
 use cms_ext::{ExtList, Extension};
 use cms_files::{StackEnd, has_room, stack_lines};
 use cms_line::{Line, Lines, Message, Word};
-use cms_search::{
-    Asked, Course, End, PlaceEvent, State, say_lines, say_message, say_ready, turn,
-};
+use cms_search::{Asked, Course, End, PlaceEvent, State, say_lines, say_message, say_ready, turn};
 use cms_text::decimal;
 use cms_world::World;
 use exec2_run::{Exec, Side, Want};

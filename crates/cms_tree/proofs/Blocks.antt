@@ -11,4 +11,3 @@ has_block j u last n size has low high = go (slice_get j.units u) has
     go : (o : Option Attached) → IsSomeAnd o (λ unit. (unit.bsize ≡ size) × (last ≤ length unit.start)) → IsSomeAnd o (λ unit. (unit.bsize ≡ size) × (1 ≤ n) × (n ≤ length unit.start))
     go (Some unit) h = let long = h.1 in (h.0, omega arith, omega arith)
     go None h = absurd h
-

@@ -106,4 +106,3 @@ is_flag old new e = ap rule_of e
 
 pub has_help : (old new : Arg) (help : Bor Text) → new ≡ record old { help = Some help } → rule_of new ≡ rule_of old
 has_help old new help e = ap rule_of e
-
