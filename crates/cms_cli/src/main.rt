@@ -1,9 +1,6 @@
 //! CMS minidisks and their commands over image files.
 #![tactic(auto)]
 
-ghost use Rattle.std.specs.Prelude.{◌≡◌, if◌then◌else◌};
-ghost use Rattle.cms_session.specs.Statuses.{code_of};
-
 mod failures;
 mod help;
 
@@ -129,13 +126,6 @@ fn answer(rt: &HostRuntime, words: &Argv) -> Ending {
     }
 }
 
-/// The program's exit code: that of the status, 0 or 2 to 5, and 4 where not all that was typed could be written.
-fn exit_code(status: Status, written: bool) -> u8
-    ensures { result ≡ (if written then code_of status else 4) }
-{
-    if written { status.code() } else { 4 }
-}
-
 fn main(rt: HostRuntime) -> ExitCode {
     let mut ending = match arguments(&rt) {
         Ok(words) => answer(&rt, &words),
@@ -145,5 +135,5 @@ fn main(rt: HostRuntime) -> ExitCode {
         ending = type_reason(&rt, ending.status);
     }
     tell_ending(&rt, ending.status, ending.written);
-    ExitCode::from(exit_code(ending.status, ending.written))
+    ExitCode::from(ending.status.exit_code(ending.written))
 }

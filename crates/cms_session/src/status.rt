@@ -1,5 +1,5 @@
 // How a session ends.
-ghost use Rattle.std.specs.Prelude.{◌≡◌};
+ghost use Rattle.std.specs.Prelude.{◌≡◌, if◌then◌else◌};
 ghost use Rattle.cms_session.specs.Statuses.{code_of};
 
 use cms_words::WordFault;
@@ -31,5 +31,12 @@ impl Status {
             Status::World => 4,
             Status::Turns => 5,
         }
+    }
+
+    /// The program's exit status where all that was typed could be written, or not: then it is 4.
+    pub fn exit_code(&self, written: bool) -> u8
+        ensures { result ≡ (if written then code_of self.now else 4) }
+    {
+        if written { self.code() } else { 4 }
     }
 }

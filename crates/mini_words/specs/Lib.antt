@@ -1,4 +1,5 @@
 pub mod Commands
+pub mod Exits
 pub mod Names
 pub mod Words
 pub mod Requests

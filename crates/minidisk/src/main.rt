@@ -4,14 +4,11 @@
 ghost use Rattle.std.specs.Prelude.{All};
 ghost use Rattle.mini_words.specs.Ranges.{IsWithin};
 
-mod exit;
-
 use cms_host::{FOLDER, FileWorld, Host, Trouble, hold_streams};
 use cms_text::Series;
 use cms_world::Argv;
-use exit::Exit;
 use mini_files::HostFiles;
-use mini_words::{Refused, Request, WordFault, read_requests};
+use mini_words::{Exit, Refused, Request, WordFault, read_requests};
 use mini_work::{Status, work};
 use std::io::{ErrorKind, IsTerminal};
 use std::process::ExitCode;

@@ -1,7 +1,7 @@
 -- How the program ends.
 use Rattle.std.specs.Prelude.{ℕ, nat_lt, if◌then◌else◌}
-use Rattle.minidisk.specs.declared.exit.Exit.{Exit}
-use Rattle.minidisk.specs.declared.exit.Exit.TheVariants.{Done, Refused, Usage, Memory, Failed}
+use Rattle.mini_words.specs.declared.exit.Exit.{Exit}
+use Rattle.mini_words.specs.declared.exit.Exit.TheVariants.{Done, Refused, Usage, Memory, Failed}
 
 -- the exit code
 abbrev pub code_of : Exit → ℕ

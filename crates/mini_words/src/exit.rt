@@ -1,6 +1,6 @@
 // How the program ends.
 ghost use Rattle.std.specs.Prelude.{◌≡◌};
-ghost use Rattle.minidisk.specs.Exits.{code_of, graver};
+ghost use Rattle.mini_words.specs.Exits.{code_of, graver};
 
 use clap::Error;
 use clap::error::ErrorKind;
