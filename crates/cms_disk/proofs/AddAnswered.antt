@@ -11,6 +11,7 @@ use Rattle.cms_fields.specs.Numbers.{up}
 use Rattle.cms_fields.specs.declared.time.Stamp.{Stamp}
 use Rattle.cms_model.specs.Changes.{Add, Changed, Full, Limited, answer_of, changed, file_named}
 use Rattle.cms_model.specs.Growth.{growth_taken}
+use Rattle.cms_model.specs.LawsUpdates.{now}
 use Rattle.cms_model.specs.Minidisks.{File, Minidisk}
 use Rattle.cms_model.specs.Records.{stored}
 use Rattle.cms_model.specs.SharedTrees.{fresh_count}
@@ -35,8 +36,9 @@ use Rattle.cms_disk.specs.Additions.{AnswersMore, HasRoomFor, IsMoreFault, MayEx
 use Rattle.cms_disk.specs.Changes.{more_refusal_of}
 use Rattle.cms_disk.specs.Disks.{Accessed, IsMinidisk, IsReadable, place_of}
 use Rattle.cms_disk.specs.Drafts.{HaveCounts, IsAnsweredBy}
+use Rattle.cms_disk.specs.declared.fault.DiskFault.{DiskFault}
 use Rattle.cms_disk.proofs.Courses.{held_minidisk}
-use Rattle.cms_disk.proofs.FilesFound.{kept_at}
+use Rattle.cms_disk.proofs.FilesFound.{kept_at, none_found}
 use Rattle.cms_disk.proofs.MoreDrafts.{file_there, found_in, told_of}
 
 -- why it is refused
@@ -171,3 +173,10 @@ refused_so T d name shape why keeps may some refused j m file more x has named c
     let at = there.1 in
     let can = may (info_of h) h.size (told_of d.volume name h at) in
     more_answered j d m name shape file more h at (added_to j d m name shape file more h at keeps x has named counts can.format_is) T why (refused h at)
+
+-- and where none has the name
+pub none_so : (T : Type 0) (d : Accessed) (name : Name) (shape : DraftShape) (why : DiskFault) → place_of name d.volume ≡ None → AnswersMore {T = T} d name shape (Err why)
+none_so T d name shape why none j m file more x has named counts = absurd (nothing (sym (none_found d name none (now j d.volume.unit) m x.stands) ∙ named))
+  where
+    nothing : None ≡ Some file → ⊥
+    nothing e = cc

@@ -1,5 +1,5 @@
 // Records that are added to a file.
-ghost use Rattle.std.specs.Prelude.{◌≡◌, ◌+◌, ℕ, List, true, false, Some, Err, length, slice_get, ◌<◌, IfErr, IfOk, OnErr, OnOk};
+ghost use Rattle.std.specs.Prelude.{◌≡◌, ◌⊎◌, ◌+◌, ℕ, List, true, false, None, Some, Err, length, slice_get, ◌<◌, IfErr, IfOk, OnErr, OnOk};
 ghost use Rattle.std.specs.Option.{ForSome};
 ghost use Rattle.cms_journal.specs.Journal.{Journal, IsWritable};
 ghost use Rattle.cms_world.specs.Seen.{seen};
@@ -14,7 +14,7 @@ ghost use Rattle.cms_edf.specs.declared.held.FileInfo as infos;
 ghost use Rattle.cms_disk.specs.Additions.{CanExtend, FitsFile, FitsInfo, IsAddFault, IsTold, shape_with};
 ghost use Rattle.cms_disk.specs.Changes.{Appends, ChangesDisk, IsPutIn};
 ghost use Rattle.cms_disk.specs.Disks.{IsMinidisk, IsReadable, place_of};
-ghost use Rattle.cms_disk.specs.declared.fault.DiskFault.TheVariants.{Limit, ReadOnly};
+ghost use Rattle.cms_disk.specs.declared.fault.DiskFault.TheVariants.{Limit, NotFound, ReadOnly};
 
 use crate::fault::DiskFault;
 use crate::minidisk::Minidisk;
@@ -65,13 +65,50 @@ impl Minidisk {
         })
     }
 
-    /// Adds records to the file of a name, which has this place, of its format and, where all have one length, its length. The file keeps its
-    /// mode number and takes the stamp of the records' data; the new directory has the stamp that is given. What stands of the file is kept
-    /// but for its last data block, where that isn't full, and the pointer blocks over it.
+    /// Adds records to the file of a name, of its format and, where all have one length, its length. The file keeps its mode number and
+    /// takes the stamp of the records' data; the new directory has the stamp that is given. What stands of the file is kept but for its
+    /// last data block, where that isn't full, and the pointer blocks over it.
     ///
     /// The refusals are those of `draft_more`. `Device` says that the device failed and the minidisk is as before, `InDoubt` that it
     /// failed and the unit holds the minidisk of before or the new one.
     pub fn append<W: World>(
+        &mut self,
+        alloc: Global,
+        world: &mut W,
+        name: &Name,
+        more: &FileData,
+        stamp: &Stamp,
+    ) -> Result<(), DiskFault>
+        requires stamp { is_stamp stamp.now ≡ true }
+        requires more { IsValid more.now }
+        requires fits { FitsFile self.old.volume name.now more.now }
+        requires blocks { ForSome (W.told world.old) (λ j. IsReadable j self.old) }
+        requires writable { self.old.writable ≡ true
+            → ForSome (W.told world.old) (λ j. IsWritable j.units self.old.volume.unit) }
+        ensures appends { (j : Journal) (m : minidisks.Minidisk) (records : List (List ℕ))
+            → W.told world.old ≡ Some j
+            → IsMinidisk j self.old m → StandsFor more.now records
+            → Appends (W.told world.old) (W.told world.new) self.old self.new m
+            (Add name.now records more.now.stamp) stamp.now result }
+        ensures holds { OnOk result ((info : infos.FileInfo) (bytes : ℕ)
+            → IsTold self.old.volume name.now info bytes
+            → IsPutIn self.old.volume name.now (shape_with info bytes more.now) self.new.volume) }
+        ensures fault { IfErr result (IsAddFault self.old name.now more.now) }
+        ensures missing { IfErr result (λ e. e ≡ NotFound
+            → place_of name.now self.old.volume ≡ None) }
+        ensures absent { place_of name.now self.old.volume ≡ None → result ≡ Err NotFound }
+        ensures read_only { IfErr result (λ e. e ≡ ReadOnly → self.old.writable ≡ false) }
+        ensures locked { self.old.writable ≡ false → (result ≡ Err NotFound)
+            ⊎ (result ≡ Err ReadOnly) }
+        ensures changes { ChangesDisk (seen W.World world.old)
+            (seen W.World world.new) self.old self.new result }
+    {
+        let place = self.place(name)?;
+        self.append_at(alloc, world, place, name, more, stamp)
+    }
+
+    /// The same where the place of the file of that name is known.
+    pub fn append_at<W: World>(
         &mut self,
         alloc: Global,
         world: &mut W,
@@ -105,7 +142,7 @@ impl Minidisk {
             return Err(DiskFault::ReadOnly);
         }
         let shape = self.shape_with(place, more)?;
-        let mut draft = self.draft_more(alloc, world, place, name, &shape, stamp)?;
+        let mut draft = self.draft_more_at(alloc, world, place, name, &shape, stamp)?;
         put_records(world, &mut draft, more)?;
         self.commit(world, draft)
     }

@@ -1,5 +1,5 @@
 // Files that are drafted for a minidisk.
-ghost use Rattle.std.specs.Prelude.{◌≡◌, ◌⊎◌, ◌+◌, ◌<◌, ◌≤◌, ◌++◌, ◌∷◌, [], ℕ, List, true, false, Some, Err, length, IfOk, IfErr, OnOk};
+ghost use Rattle.std.specs.Prelude.{◌≡◌, ◌⊎◌, ◌+◌, ◌<◌, ◌≤◌, ◌++◌, ◌∷◌, [], ℕ, List, true, false, None, Some, Err, length, IsSome, IfOk, IfErr, OnOk};
 ghost use Rattle.std.specs.Option.{ForSome};
 ghost use Rattle.cms_journal.specs.Journal.{IsWritable};
 ghost use Rattle.cms_journal.specs.Told.{Told};
@@ -19,11 +19,11 @@ ghost use Rattle.cms_disk.specs.Additions.{AnswersMore, BeginsMore, HasRoomFor, 
 ghost use Rattle.cms_disk.specs.Changes.{Alters, ChangesDisk, IsDevices};
 ghost use Rattle.cms_disk.specs.Disks.{Accessed, IsReadable, place_of};
 ghost use Rattle.cms_disk.specs.Drafts.{AnswersDraft, BeginsPut, GoesOn, HasMore, IsDraftFault, IsFull, IsSameDraft, PutsRecord};
-ghost use Rattle.cms_disk.specs.declared.fault.DiskFault.TheVariants.{Device, Limit, ReadOnly};
+ghost use Rattle.cms_disk.specs.declared.fault.DiskFault.TheVariants.{Device, Limit, NotFound, ReadOnly};
 
 use crate::fault::DiskFault;
 use crate::minidisk::Minidisk;
-use cms_edf::{Draft, DraftShape, commit, plan_draft_at, plan_more};
+use cms_edf::{Draft, DraftShape, commit, plan_draft_at, plan_more_at};
 use cms_fields::Stamp;
 use cms_names::Name;
 use cms_world::{Failed, World};
@@ -101,14 +101,52 @@ impl Minidisk {
         Ok(draft)
     }
 
-    /// Plans the addition of records to the file of a name, which has this place. The shape is that of the whole file, with its own records
-    /// and the added ones; only these are put then. The directory is to have the stamp that is given. Nothing is written, and the minidisk
-    /// stays as it is. Of the file the last data block is read where it isn't full, and a pointer block a level at most.
+    /// Plans the addition of records to the file of a name. The shape is that of the whole file, with its own records and the added ones;
+    /// only these are put then. The directory is to have the stamp that is given. Nothing is written, and the minidisk stays as it is. Of
+    /// the file the last data block is read where it isn't full, and a pointer block a level at most.
     ///
-    /// `ReadOnly` comes exactly where the minidisk may not be written; else `Limit` exactly where the file would pass one, the lowest of
-    /// them; else `Full` exactly where it needs more blocks than are free. `Device` says that none of these holds and that a read failed.
-    /// Behind `draft_more` no memory is taken for the file.
+    /// `NotFound` comes exactly where no file has the name; else `ReadOnly` exactly where the minidisk may not be written; else `Limit`
+    /// exactly where the file would pass one, the lowest of them; else `Full` exactly where it needs more blocks than are free. `Device`
+    /// says that none of these holds and that a read failed. Behind `draft_more` no memory is taken for the file.
     pub fn draft_more<W: World>(
+        &mut self,
+        alloc: Global,
+        world: &mut W,
+        name: &Name,
+        shape: &DraftShape,
+        stamp: &Stamp,
+    ) -> Result<Draft, DiskFault>
+        requires stamp { is_stamp stamp.now ≡ true }
+        requires extends { MayExtend self.old.volume name.now shape.now }
+        requires blocks { ForSome (W.told world.old) (λ j. IsReadable j self.old) }
+        ensures planned { IfOk result (λ d. (f : HeldFile) → IsFileOf self.old.volume name.now f
+            → IsMoreFor self.old.volume name.now f shape.now stamp.now d) }
+        ensures some { IfOk result (IsSomeDraft self.old.volume) }
+        ensures behind { IfOk result (IsBehindFile self.old.volume name.now shape.now) }
+        ensures begins { IfOk result (BeginsMore (W.told world.old)
+            (W.told world.new) self.old self.new name.now shape.now stamp.now) }
+        ensures room { OnOk result (HasRoomFor self.old.volume name.now shape.now) }
+        ensures writable { OnOk result (self.old.writable ≡ true) }
+        ensures answers { AnswersMore self.old name.now shape.now result }
+        ensures fault { IfErr result (IsMoreFault self.old name.now shape.now) }
+        ensures absent { place_of name.now self.old.volume ≡ None → result ≡ Err NotFound }
+        ensures locked { self.old.writable ≡ false → (result ≡ Err NotFound)
+            ⊎ (result ≡ Err ReadOnly) }
+        ensures limited { IsSome (place_of name.now self.old.volume) → self.old.writable ≡ true
+            → (which : ℕ)
+            → limit_put (length self.old.volume.files) shape.now.count shape.now.bytes ≡ Some which
+            → result ≡ Err (Limit which) }
+        ensures kept { self.new ≡ record self.old { spare = self.new.spare } }
+        ensures spare { OnOk result (1 ≤ self.new.spare) }
+        ensures places { self.old.spare ≤ self.new.spare }
+        ensures reads { OnlyReads (seen W.World world.old) (seen W.World world.new) Device result }
+    {
+        let place = self.place(name)?;
+        self.draft_more_at(alloc, world, place, name, shape, stamp)
+    }
+
+    /// The same where the place of the file of that name is known.
+    pub fn draft_more_at<W: World>(
         &mut self,
         alloc: Global,
         world: &mut W,
@@ -143,7 +181,7 @@ impl Minidisk {
         if !self.is_writable() {
             return Err(DiskFault::ReadOnly);
         }
-        let draft = plan_more(alloc, world, &mut self.held, place, name, shape, stamp)?;
+        let draft = plan_more_at(alloc, world, &mut self.held, place, name, shape, stamp)?;
         Ok(draft)
     }
 

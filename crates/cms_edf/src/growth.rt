@@ -293,13 +293,54 @@ fn begin<W: World>(
     })
 }
 
-/// Plans the addition of records to the file of a name, which has this place: all that is written then but its own blocks, and all memory
-/// that the update needs. `asked` is what the whole file is to be; only the added records are put then. The file keeps its full data blocks, and the pointer blocks
+/// Plans the addition of records to the file of a name: all that is written then but its own blocks, and all memory that the update needs.
+/// `asked` is what the whole file is to be; only the added records are put then. The file keeps its full data blocks, and the pointer blocks
 /// that end within these.
 ///
 /// Nothing is written, and the volume stays as it is held. `Limit` comes exactly where the file would pass one, the lowest of them; else
 /// `Full` exactly where it needs more blocks than are free. `Device` comes only where a read failed, where none of these does.
 pub fn plan_more<W: World>(
+    alloc: Global,
+    world: &mut W,
+    held: &mut Held,
+    name: &Name,
+    asked: &DraftShape,
+    stamp: &Stamp,
+) -> Result<Draft, MoreFault>
+    requires stamp { is_stamp stamp.now ≡ true }
+    requires grows { (place : ℕ) → position (same_name name.now) (names_in held.old.volume.files)
+        ≡ Some place
+        → CanGrow held.old.volume name.now place asked.now }
+    requires there { IsSome (position (same_name name.now) (names_in held.old.volume.files)) }
+    requires blocks { ForSome (W.told world.old)
+        (λ j. HasBlocks j.units held.old.volume.unit held.old.volume.disk.count
+        held.old.volume.disk.bsize) }
+    ensures planned { IfOk result (λ d. (f : volumes.HeldFile) → IsFileOf held.old.volume name.now f
+        → IsMoreFor held.old.volume name.now f asked.now stamp.now d) }
+    ensures some { IfOk result (IsSomeDraft held.new.volume) }
+    ensures behind { IfOk result (λ d. (f : volumes.HeldFile) → IsFileOf held.old.volume name.now f
+        → IsBehind f asked.now d) }
+    ensures drafts { IfOk result (λ d. ForSome (W.told world.old)
+        (λ j. (f : volumes.HeldFile) (front : Front) (records : List (List ℕ))
+        → IsFileOf held.old.volume name.now f → IsFrontOf j held.old.volume f (tree_of d) front
+        → HaveShapeOn asked.now front records → Drafts d.writer front [] records)) }
+    ensures refused { IfErr result (λ e. (f : volumes.HeldFile) → (at : IsFileOf held.old.volume name.now f)
+        → IsMoreRefused held.old.volume at.place f asked.now e) }
+    ensures limited { (which : ℕ) → limit_put
+        (length held.old.volume.files) asked.now.count asked.now.bytes ≡ Some which
+        → result ≡ Err (Limit which) }
+    ensures kept { Keeps held.old.volume }
+    ensures volume { held.new.volume ≡ held.old.volume }
+    ensures spare { OnOk result (1 ≤ held.new.spare) }
+    ensures places { held.old.spare ≤ held.new.spare }
+    ensures reads { OnlyReads (seen W.World world.old) (seen W.World world.new) Device result }
+{
+    let place = held.place(name);
+    plan_more_at(alloc, world, held, place, name, asked, stamp)
+}
+
+/// The same where the place of the file of that name is known.
+pub fn plan_more_at<W: World>(
     alloc: Global,
     world: &mut W,
     held: &mut Held,

@@ -41,7 +41,7 @@ pub use doubt::Doubt;
 pub use draft::{Draft, plan_draft, plan_draft_at};
 pub use draft_commit::commit;
 pub use empty_volume::{MakePlan, make, plan_make, wipe};
-pub use growth::{MoreFault, plan_more};
+pub use growth::{MoreFault, plan_more, plan_more_at};
 pub use held::{FileInfo, Held, HeldFile, Space};
 pub use opened_volume::open_volume;
 pub use step::Plan;

@@ -79,7 +79,7 @@ impl AccessTable {
             Some(seat) => {
                 seat.reading = None;
                 seat.disk
-                    .draft_more(alloc, world, place, name, shape, stamp)
+                    .draft_more_at(alloc, world, place, name, shape, stamp)
             }
             None => unreachable!(),
         }

@@ -48,7 +48,7 @@ fn update_minidisk<W: World>(
 {
     match update {
         FileWrite::Put(file) => disk.put(alloc, world, name, file, stamp),
-        FileWrite::Append(place, more) => disk.append(alloc, world, place, name, more, stamp),
+        FileWrite::Append(place, more) => disk.append_at(alloc, world, place, name, more, stamp),
     }
 }
 

@@ -9,6 +9,6 @@ returns-in-Put g c = let is = c.in-Put.is in rw is (λ records stands. record {
 
 pub returns-in-Append : goal.returns-in-Append
 returns-in-Append g c = let is = c.in-Append.is in rw is (λ records stands. record {
-  appends = λ j m told is'. c.append.ensures.appends j m records told is' stands;
-  changes = c.append.ensures.changes;
+  appends = λ j m told is'. c.append_at.ensures.appends j m records told is' stands;
+  changes = c.append_at.ensures.changes;
 })

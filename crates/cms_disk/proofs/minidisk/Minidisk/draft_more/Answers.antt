@@ -1,96 +1,28 @@
-use Rattle.std.proofs.Common.{◌≡◌, ◌∙◌, ℕ, length, Option, Some, refl, sym, ap, subst}
-use Rattle.std.specs.Prelude.{IsSome}
+use Rattle.std.proofs.Common.{◌≡◌, ◌∙◌, inl, inr, None, Some, Result, Err, refl, sym, ap, subst}
+use Rattle.std.specs.Prelude.{IfErr}
 use Rattle.std.proofs.lemmas.Result.{err_from_is_err_and}
-use Rattle.cms_journal.specs.Journal.{HasBlocks}
-use Rattle.cms_held.specs.HeldVolumes.{HeldVolume}
-use Rattle.cms_held.specs.Puts.{limit_put}
 use Rattle.cms_edf.specs.declared.draft.Draft.{Draft}
-use Rattle.cms_disk.specs.Additions.{MayExtend}
-use Rattle.cms_disk.specs.Disks.{Accessed, place_of}
-use Rattle.cms_disk.proofs.AddAnswered.{more_fault, planned_so, refused_so, room_for}
-use Rattle.cms_disk.proofs.MoreDrafts.{begins_more, behind_file, can_grow, file_there, told_of}
+use Rattle.cms_disk.specs.Additions.{AnswersMore, IsMoreFault}
+use Rattle.cms_disk.specs.declared.fault.DiskFault.{DiskFault}
+use Rattle.cms_disk.proofs.AddAnswered.{none_so}
 use Rattle.cms_disk.proofs.minidisk.Minidisk.draft_more.Goals as goal
 
--- it is there
-is_some : {o : Option ℕ} {k : ℕ} → o ≡ Some k → IsSome o
-is_some e = subst (λ (x : Option ℕ). IsSome x) (sym e) refl
-
-pub returns-then-not-is_writable-clause-answers : goal.returns-then-not-is_writable-clause-answers
-returns-then-not-is_writable-clause-answers g c = λ j m file more is has named counts. tt
-
-pub plan_more-requires-clause-grows : goal.plan_more-requires-clause-grows
-plan_more-requires-clause-grows g c =
-    let view = sym (ap (λ (a : Accessed). a.volume) c.self.view_is) in
-    can_grow c.self.inside.held.volume c.args.name.now c.args.shape.now (subst (λ (v : HeldVolume). MayExtend v c.args.name.now c.args.shape.now) view c.requires.extends) c.args.place
-    (subst (λ (v : HeldVolume). place_of c.args.name.now v ≡ Some c.args.place) view c.requires.there)
-
-pub plan_more-requires-clause-blocks : goal.plan_more-requires-clause-blocks
-plan_more-requires-clause-blocks g c = λ j told.
-    subst (λ (v : HeldVolume). HasBlocks j.units v.unit v.disk.count v.disk.bsize) (sym (ap (λ (a : Accessed). a.volume) c.self.view_is)) (c.requires.blocks j told)
-
-pub returns-in_err-draft-clause-fault : goal.returns-in_err-draft-clause-fault
-returns-in_err-draft-clause-fault g c =
+pub returns-in_err-place-clause-answers : goal.returns-in_err-place-clause-answers
+returns-in_err-place-clause-answers g c =
     let p = err_from_is_err_and c.from_residual.result c.from_residual.ensures.1 in
-    let s = c.self.inside in
-    let d : Accessed = record { vdev = s.unit.vdev; writable = s.unit.writable; volume = s.held.volume; spare = s.held.spare } in
-    rw (← c.self.view_is, p.1, p.2) (more_fault d c.args.name.now c.args.shape.now c.in_err-draft.field-0.0 c.in_err-draft.ensures.refused)
-
-pub returns-in_err-draft-clause-answers : goal.returns-in_err-draft-clause-answers
-returns-in_err-draft-clause-answers g c =
-    let p = err_from_is_err_and c.from_residual.result c.from_residual.ensures.1 in
-    let s = c.self.inside in
-    let d : Accessed = record { vdev = s.unit.vdev; writable = s.unit.writable; volume = s.held.volume; spare = s.held.spare } in
-    let view = ap (λ (a : Accessed). a.volume) c.self.view_is in
-    let may = subst (λ (v : HeldVolume). MayExtend v c.args.name.now c.args.shape.now) (sym view) c.requires.extends in
-    let some = is_some (subst (λ (v : HeldVolume). place_of c.args.name.now v ≡ Some c.args.place) (sym view) c.requires.there) in
-    rw (← c.self.view_is, p.1, p.2) (refused_so Draft d c.args.name.now c.args.shape.now c.in_err-draft.field-0.0 c.plan_more.ensures.kept may some c.in_err-draft.ensures.refused)
-
-pub returns-clause-behind : goal.returns-clause-behind
-returns-clause-behind g c = rw (← c.self.view_is) (
-    let made = c.in_ok-draft.ensures in
-    behind_file c.self.inside.held.volume c.args.name.now c.args.shape.now c.args.stamp.now c.in_ok-draft.draft made.planned made.behind)
-
-pub returns-clause-room : goal.returns-clause-room
-returns-clause-room g c = rw (← c.self.view_is) (
-    room_for c.self.inside.held.volume c.args.name.now c.args.shape.now c.args.stamp.now c.in_ok-draft.draft c.in_ok-draft.ensures.planned)
-
-pub returns-clause-answers : goal.returns-clause-answers
-returns-clause-answers g c =
-    let s = c.self.inside in
-    let d : Accessed = record { vdev = s.unit.vdev; writable = s.unit.writable; volume = s.held.volume; spare = s.held.spare } in
-    let view = ap (λ (a : Accessed). a.volume) c.self.view_is in
-    let some = is_some (subst (λ (v : HeldVolume). place_of c.args.name.now v ≡ Some c.args.place) (sym view) c.requires.there) in
-    rw (← c.self.view_is) (planned_so c.in_ok-draft.draft d c.args.name.now c.args.shape.now c.args.stamp.now c.in_ok-draft.draft c.plan_more.ensures.kept some c.in_ok-draft.ensures.planned)
-
-pub returns-clause-begins : goal.returns-clause-begins
-returns-clause-begins g c =
-    let old = g.W.World.told c.args.world.now in
-    let new = g.W.World.told c.plan_more.new.world in
-    let s = c.self.inside in
-    let d : Accessed = record { vdev = s.unit.vdev; writable = s.unit.writable; volume = s.held.volume; spare = s.held.spare } in
-    let e : Accessed = record { vdev = s.unit.vdev; writable = s.unit.writable; volume = c.plan_more.new.held.volume; spare = c.plan_more.new.held.spare } in
+    let d = c.args.self.now in
     let name = c.args.name.now in
     let shape = c.args.shape.now in
-    let made = c.in_ok-draft.ensures in
-    let view = ap (λ (a : Accessed). a.volume) c.self.view_is in
-    let may = subst (λ (v : HeldVolume). MayExtend v name shape) (sym view) c.requires.extends in
-    let some = is_some (subst (λ (v : HeldVolume). place_of name v ≡ Some c.args.place) (sym view) c.requires.there) in
-    let there = file_there d.volume name some in
-    let h = there.0 in
-    let at = there.1 in
-    let can = may _ h.size (told_of d.volume name h at) in
-    rw (← c.self.view_is) (begins_more old new d e name shape c.args.stamp.now c.in_ok-draft.draft at.place h made.reads.told c.plan_more.ensures.volume c.plan_more.ensures.kept at.there at.is
-    (made.planned h at) (made.behind h at) can.format_is
-    (λ j told. subst (λ (v : HeldVolume). HasBlocks j.units v.unit v.disk.count v.disk.bsize) (sym view) (c.requires.blocks j told))
-    (λ j front records told front_is on. made.drafts j told h front records at front_is on))
+    subst (λ (r : Result Draft DiskFault). AnswersMore d name shape r) (sym p.1) (none_so Draft d name shape p.0 c.in_err-place.ensures.missing)
+
+pub returns-in_err-place-clause-fault : goal.returns-in_err-place-clause-fault
+returns-in_err-place-clause-fault g c =
+    let p = err_from_is_err_and c.from_residual.result c.from_residual.ensures.1 in
+    let none = c.in_err-place.ensures in
+    subst (λ (r : Result Draft DiskFault). IfErr r (IsMoreFault c.args.self.now c.args.name.now c.args.shape.now)) (sym (p.1 ∙ ap Err (p.2 ∙ none.fault))) none.missing
+
+pub returns-clause-locked : goal.returns-clause-locked
+returns-clause-locked g c = λ locked. inr (c.draft_more_at.ensures.locked locked)
 
 pub returns-clause-limited : goal.returns-clause-limited
-returns-clause-limited g c = λ writable which is.
-    let view = ap (λ (a : Accessed). a.volume) c.self.view_is in
-    let shape = c.args.shape.now in
-    let at = subst (λ (v : HeldVolume). limit_put (length v.files) shape.count shape.bytes ≡ Some which) (sym view) is in
-    let e = sym c.in_ok-draft.was ∙ c.plan_more.ensures.limited which at in
-    absurd (cc e)
-
-pub returns-clause-planned : goal.returns-clause-planned
-returns-clause-planned g c = rw (← c.self.view_is) c.in_ok-draft.ensures.planned
+returns-clause-limited g c = λ there. c.draft_more_at.ensures.limited

@@ -17,12 +17,12 @@ unreachable-requires g c =
 pub invariant_of-self : goal.invariant_of-self
 invariant_of-self g c =
     table_kept (the_view c.self.inside) _ c.args.letter _ c.self.view_is c.requires.accessed c.index_mut.ensures.value
-    (seats.the_view c.seat.inside) _ c.draft_more.new.self c.self.invariant c.in-Some.is c.seat.view_is
+    (seats.the_view c.seat.inside) _ c.draft_more_at.new.self c.self.invariant c.in-Some.is c.seat.view_is
 
 pub returns : goal.returns
 returns g c =
     let t = the_view c.self.inside in
-    let more = c.draft_more in
+    let more = c.draft_more_at in
     let made = more.ensures in
     seat_changed t _ c.args.letter _ c.self.view_is c.requires.accessed c.index_mut.ensures.value
     (λ (s : Seated) (e : Accessed). DraftsMoreTo (seen g.W.World c.args.world.now) (seen g.W.World more.new.world) s.disk e c.args.name.now c.args.shape.now c.args.stamp.now more.result)
@@ -36,22 +36,22 @@ returns g c =
       reads = made.reads;
     })
 
-pub draft_more-requires-clause-there : goal.draft_more-requires-clause-there
-draft_more-requires-clause-there g c =
+pub draft_more_at-requires-clause-there : goal.draft_more_at-requires-clause-there
+draft_more_at-requires-clause-there g c =
     let t = the_view c.self.inside in
     let s = seats.the_view c.seat.inside in
     let at = seat_at t _ c.args.letter _ c.self.view_is c.requires.accessed c.index_mut.ensures.value s _ c.in-Some.is c.seat.view_is in
     (c.requires.may s (ap (λ (x : AccessTable). item_at x.seats c.args.letter) (sym c.self.view_is) ∙ at)).there
 
-pub draft_more-requires-clause-extends : goal.draft_more-requires-clause-extends
-draft_more-requires-clause-extends g c =
+pub draft_more_at-requires-clause-extends : goal.draft_more_at-requires-clause-extends
+draft_more_at-requires-clause-extends g c =
     let t = the_view c.self.inside in
     let s = seats.the_view c.seat.inside in
     let at = seat_at t _ c.args.letter _ c.self.view_is c.requires.accessed c.index_mut.ensures.value s _ c.in-Some.is c.seat.view_is in
     (c.requires.may s (ap (λ (x : AccessTable). item_at x.seats c.args.letter) (sym c.self.view_is) ∙ at)).extends
 
-pub draft_more-requires-clause-blocks : goal.draft_more-requires-clause-blocks
-draft_more-requires-clause-blocks g c =
+pub draft_more_at-requires-clause-blocks : goal.draft_more_at-requires-clause-blocks
+draft_more_at-requires-clause-blocks g c =
     let t = the_view c.self.inside in
     let s = seats.the_view c.seat.inside in
     let at = seat_at t _ c.args.letter _ c.self.view_is c.requires.accessed c.index_mut.ensures.value s _ c.in-Some.is c.seat.view_is in
