@@ -1,14 +1,16 @@
 // A file that is written on behind its records: it keeps its full data blocks, and the pointer blocks that end within these.
-ghost use Rattle.std.specs.Prelude.{◌≡◌, ℕ, List, [], ◌≤◌, ◌<◌, ◌+◌, ◌-◌, ◌*◌, ◌/◌, ◌%◌, ◌^◌, ◌++◌, true, Some, None, Err, length, replicate, take, slice_get, slice_index, IfOk, IfErr, OnOk};
+ghost use Rattle.std.specs.Prelude.{◌≡◌, ℕ, List, [], ◌≤◌, ◌<◌, ◌+◌, ◌-◌, ◌*◌, ◌/◌, ◌%◌, ◌^◌, ◌++◌, true, Some, None, Err, IsSome, length, position, replicate, take, slice_get, slice_index, IfOk, IfErr, OnOk};
 ghost use Rattle.std.specs.Option.{ForSome};
 ghost use Rattle.cms_journal.specs.Journal.{HasBlock, HasBlocks, contents_of};
 ghost use Rattle.cms_fields.specs.Limits.{most_bytes};
 ghost use Rattle.cms_fields.specs.Stamps.{is_stamp};
+ghost use Rattle.cms_model.specs.Minidisks.{same_name};
 ghost use Rattle.cms_model.specs.Trees.{image_of};
 ghost use Rattle.cms_held.specs.Drafts.{Front, filled};
 ghost use Rattle.cms_tree.specs.Paths.{fresh_places};
 ghost use Rattle.cms_held.specs.Growths.{places_behind};
 ghost use Rattle.cms_held.specs.HeldVolumes as volumes;
+ghost use Rattle.cms_held.specs.HeldVolumes.{names_in};
 ghost use Rattle.cms_held.specs.Kept.{IsKeptFile, Keeps};
 ghost use Rattle.cms_held.specs.Puts.{limit_put};
 ghost use Rattle.cms_draft.specs.BegunFiles.{HaveShapeOn};

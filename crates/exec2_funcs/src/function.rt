@@ -6,7 +6,7 @@ ghost use Rattle.exec2_funcs.specs.Functions as spec;
 use exec2_parse::is_spelled;
 
 /// A function of EXEC 2. Its word is its name with an ampersand before it.
-#[derive(Clone, Copy)]
+#[derive(Clone, Copy, Debug)]
 pub enum Function {
     Concat,
     Datatype,

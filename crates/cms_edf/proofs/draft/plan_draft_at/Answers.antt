@@ -13,7 +13,7 @@ returns-clause-some c =
     IfOk-weaker c.plan_file.result _ _ (λ d p. new_is_some c.reserve.new.self.volume c.args.name.now c.args.asked.now c.args.stamp.now d p) c.plan_file.ensures.planned
 
 pub returns-in_default-reserve-clause-kept : goal.returns-in_default-reserve-clause-kept
-returns-in_default-reserve-clause-kept c = c.find-place.ensures.kept
+returns-in_default-reserve-clause-kept c = c.count-count.ensures.kept
 
 pub returns-in_default-reserve-clause-volume : goal.returns-in_default-reserve-clause-volume
 returns-in_default-reserve-clause-volume c = c.reserve.ensures.volume
@@ -22,7 +22,7 @@ pub returns-in_default-reserve-clause-places : goal.returns-in_default-reserve-c
 returns-in_default-reserve-clause-places c = c.reserve.ensures.places
 
 pub returns-in-Some-passed_limit-clause-kept : goal.returns-in-Some-passed_limit-clause-kept
-returns-in-Some-passed_limit-clause-kept c = c.find-place.ensures.kept
+returns-in-Some-passed_limit-clause-kept c = c.count-count.ensures.kept
 
 pub plan_file-requires-clause-stamp : goal.plan_file-requires-clause-stamp
 plan_file-requires-clause-stamp c = c.requires.stamp
@@ -39,7 +39,7 @@ returns-clause-fresh c =
     subst (λ (v : HeldVolume). IfOk c.plan_file.result (λ d. IsFresh v.unit v.disk.bsize c.args.asked.now (tree_of d) d.writer)) c.reserve.ensures.volume c.plan_file.ensures.fresh
 
 pub returns-clause-kept : goal.returns-clause-kept
-returns-clause-kept c = c.find-place.ensures.kept
+returns-clause-kept c = c.count-count.ensures.kept
 
 pub returns-clause-volume : goal.returns-clause-volume
 returns-clause-volume c = c.reserve.ensures.volume
