@@ -38,7 +38,7 @@ use cms_world::World;
 use std::alloc::{AllocError, Global};
 
 /// Why no addition is planned.
-#[derive(Clone, Copy, Debug)]
+#[derive(Clone, Copy)]
 pub enum MoreFault {
     /// a limit is passed: 2 the number of records, 3 that of stored bytes
     Limit(u32),

@@ -1,7 +1,7 @@
 // The forms of host files, and why one is refused.
 
 /// How a host file shows the records of a file.
-#[derive(Clone, Copy, Debug, PartialEq, Eq)]
+#[derive(Clone, Copy, Debug)]
 pub enum Form {
     /// each record a line in UTF-8
     Text,
@@ -13,7 +13,7 @@ pub enum Form {
 
 /// How a host file's bytes are taken as records. A size is that of every record, 1 to 65,535 bytes, in a file of format F;
 /// without one each record has its own, in a file of format V.
-#[derive(Clone, Copy, Debug, PartialEq, Eq)]
+#[derive(Clone, Copy, Debug)]
 pub enum Layout {
     /// each line a record, filled with blanks to the size; an empty line is one blank at least
     Text(Option<u32>),
@@ -24,7 +24,7 @@ pub enum Layout {
 }
 
 /// Why a host file stands for no records. Lines and records are counted from 1.
-#[derive(Clone, Copy, Debug, PartialEq, Eq)]
+#[derive(Clone, Copy, Debug)]
 pub enum FormFault {
     /// this line has bytes that aren't a character to U+00FF in UTF-8
     BadCharacter(u32),
