@@ -14,7 +14,7 @@ ghost use Rattle.cms_draft.specs.BlockWriters.{CanWrite};
 ghost use Rattle.cms_held.specs.Puts.{count_put, limit_put};
 ghost use Rattle.cms_edf.specs.FileDrafts.{CanDraft};
 ghost use Rattle.cms_disk.specs.Changes.{Alters, ChangesDisk, IsDevices, IsPutIn};
-ghost use Rattle.cms_disk.specs.Disks.{Accessed, IsMinidisk, IsReadable};
+ghost use Rattle.cms_disk.specs.Disks.{Accessed, IsMinidisk, IsReadable, place_of};
 ghost use Rattle.cms_disk.specs.Drafts.{AreLast, GoesOn, IsFull, IsPutFault, IsSameDraft, PutsRecord, file_with, shape_of};
 ghost use Rattle.cms_disk.specs.declared.fault.DiskFault.TheVariants.{Device, Limit, ReadOnly};
 
@@ -110,8 +110,46 @@ impl Minidisk {
         ensures changes { ChangesDisk (seen W.World world.old)
             (seen W.World world.new) self.old self.new result }
     {
+        let there = self.find(name);
+        self.put_at(alloc, world, there, name, file, stamp)
+    }
+
+    /// The same where the place of the file of that name is known, or that there is none.
+    pub fn put_at<W: World>(
+        &mut self,
+        alloc: Global,
+        world: &mut W,
+        there: Option<u32>,
+        name: &Name,
+        file: &FileData,
+        stamp: &Stamp,
+    ) -> Result<(), DiskFault>
+        requires there { there ≡ place_of name.now self.old.volume }
+        requires stamp { is_stamp stamp.now ≡ true }
+        requires file { IsValid file.now }
+        requires blocks { ForSome (W.told world.old) (λ j. IsReadable j self.old) }
+        requires writable { self.old.writable ≡ true
+            → ForSome (W.told world.old) (λ j. IsWritable j.units self.old.volume.unit) }
+        ensures alters { (j : Journal) (m : minidisks.Minidisk) (records : List (List ℕ))
+            → W.told world.old ≡ Some j
+            → IsMinidisk j self.old m → StandsFor file.now records
+            → Alters (W.told world.old) (W.told world.new) self.old self.new m
+            (Put (file_with name.now (shape_of file.now) records))
+            stamp.now result }
+        ensures holds { OnOk result (IsPutIn self.old.volume name.now
+            (shape_of file.now) self.new.volume) }
+        ensures fault { IfErr result (IsPutFault self.old name.now (shape_of file.now)) }
+        ensures read_only { IfErr result (λ e. e ≡ ReadOnly → self.old.writable ≡ false) }
+        ensures locked { self.old.writable ≡ false → result ≡ Err ReadOnly }
+        ensures limited { self.old.writable ≡ true → (which : ℕ)
+            → limit_put (count_put self.old.volume name.now)
+            (shape_of file.now).count (shape_of file.now).bytes ≡ Some which
+            → result ≡ Err (Limit which) }
+        ensures changes { ChangesDisk (seen W.World world.old)
+            (seen W.World world.new) self.old self.new result }
+    {
         let shape = shape_of(file);
-        let mut draft = self.draft(alloc, name, &shape, stamp)?;
+        let mut draft = self.draft_at(alloc, there, name, &shape, stamp)?;
         put_records(world, &mut draft, file)?;
         self.commit(world, draft)
     }

@@ -1,5 +1,5 @@
 // DISKW: lines are written into a file.
-ghost use Rattle.std.specs.Prelude.{◌≡◌, ◌≤◌, ℕ, List, length, replicate, true, IfOk, Ok, Some};
+ghost use Rattle.std.specs.Prelude.{◌≡◌, ◌≤◌, ℕ, List, length, replicate, true, IfOk, None, Ok, Some};
 ghost use Rattle.cms_fields.specs.Moments.{is_moment, stamp_of};
 ghost use Rattle.cms_fields.specs.Stamps.{is_stamp};
 ghost use Rattle.cms_model.specs.Changes.{Add, Put};
@@ -107,6 +107,8 @@ fn write_anew<W: World>(
     requires usable { IsUsable (spot W.World world.old state.old) }
     requires writing { writing (item_at (letters_of state.old.table) target.now.mode.letter)
         target.now.mode.letter ≡ Ok tt }
+    requires absent { named.place_named state.old.table target.now.mode.letter target.now.name
+        ≡ None }
     requires some { 1 ≤ length lines.now }
     requires moment { is_moment state.old.moment ≡ true }
     ensures acts { Acts (spot W.World world.old state.old) (spot W.World world.new state.new)
@@ -126,7 +128,7 @@ fn write_anew<W: World>(
         state,
         target.mode.letter,
         &target.name,
-        FileWrite::Put(&file),
+        FileWrite::New(&file),
     )
 }
 

@@ -9,4 +9,5 @@ use Rattle.cms_files.specs.Updates.{names_of}
 -- the update is of the one file
 pub names_one : (name : Name) (u : FileWrite) (records : List (List ℕ)) → names_of (change_with name u records) ≡ name ∷ []
 names_one name (update.Put file) records = refl
+names_one name (update.New file) records = refl
 names_one name (update.Append place more) records = refl

@@ -1,5 +1,5 @@
 -- Files that are put onto the disk of a letter, and records that are added to a file of it.
-use Rattle.std.specs.Prelude.{◌≡◌, ℕ, true, List, Some, Result, ⊤}
+use Rattle.std.specs.Prelude.{◌≡◌, ℕ, true, List, None, Some, Result, ⊤}
 use Rattle.std.specs.Option.{ForSome}
 use Rattle.cms_journal.specs.Journal.{Journal, IsWritable}
 use Rattle.cms_journal.specs.Told.{Told}
@@ -27,16 +27,19 @@ use Rattle.cms_search.specs.declared.file_write.FileWrite.TheVariants as update
 -- the data of the file, or of the records
 abbrev pub data_of : FileWrite → FileData
 data_of (update.Put file) = file.now
+data_of (update.New file) = file.now
 data_of (update.Append place more) = more.now
 
 -- the change that it is, where its data stand for these records
 abbrev pub change_with : Name → FileWrite → List (List ℕ) → Change
 change_with name (update.Put file) records = Put (file_with name (shape_of file.now) records)
+change_with name (update.New file) records = Put (file_with name (shape_of file.now) records)
 change_with name (update.Append place more) records = Add name records more.now.stamp
 
--- records are added to the file in its place, as it has them
+-- there is no file of a new one's name; records are added to the file in its place, as it has them
 abbrev pub FitsUpdate : HeldVolume → Name → FileWrite → Type 0
 FitsUpdate v name (update.Put file) = ⊤
+FitsUpdate v name (update.New file) = place_of name v ≡ None
 FitsUpdate v name (update.Append place more) = (place_of name v ≡ Some place) × FitsFile v name more.now
 
 -- the update fits, and the disk's blocks may be read, and written where the disk may be

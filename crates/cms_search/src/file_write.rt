@@ -25,6 +25,8 @@ use std::alloc::Global;
 pub enum FileWrite<'u> {
     /// the file: it takes the place of the one of its name, or stands last
     Put(&'u FileData),
+    /// the file, of whose name there is none: it stands last
+    New(&'u FileData),
     /// records that are added to the file of a name, which has this place, of its format and, where all have one length, its length
     Append(u32, &'u FileData),
 }
@@ -48,6 +50,7 @@ fn update_minidisk<W: World>(
 {
     match update {
         FileWrite::Put(file) => disk.put(alloc, world, name, file, stamp),
+        FileWrite::New(file) => disk.put_at(alloc, world, None, name, file, stamp),
         FileWrite::Append(place, more) => disk.append_at(alloc, world, place, name, more, stamp),
     }
 }

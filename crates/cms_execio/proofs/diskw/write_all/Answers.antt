@@ -1,4 +1,4 @@
-use Rattle.std.proofs.Common.{◌∙◌, Option, Some, None, ap, sym}
+use Rattle.std.proofs.Common.{ℕ, ◌∙◌, Option, Some, None, ap, sym}
 use Rattle.std.specs.Option.{option_map}
 use Rattle.cms_edf.specs.declared.held.FileInfo.{FileInfo}
 use Rattle.cms_files.specs.declared.told.ToldFile.{ToldFile}
@@ -7,6 +7,12 @@ use Rattle.cms_execio.proofs.diskw.write_all.Goals as goal
 
 abbrev infos : Option ToldFile → Option FileInfo
 infos x = option_map (λ (f : ToldFile). f.info) x
+
+abbrev place : Option ToldFile → Option ℕ
+place x = option_map (λ (f : ToldFile). f.place) x
+
+pub write_anew-requires-clause-absent : goal.write_anew-requires-clause-absent
+write_anew-requires-clause-absent g c = sym c.told_named.ensures.place ∙ ap place c.in-None.is
 
 pub returns-in-Some-clause-acts : goal.returns-in-Some-clause-acts
 returns-in-Some-clause-acts g c =

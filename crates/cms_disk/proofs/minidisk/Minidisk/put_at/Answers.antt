@@ -22,14 +22,14 @@ use Rattle.cms_disk.specs.declared.fault.DiskFault.{DiskFault}
 use Rattle.cms_disk.specs.declared.fault.DiskFault.TheVariants.{Limit, ReadOnly}
 use Rattle.cms_disk.proofs.FilePut.{alters_same, are_last, changed_behind, device_is_fault, draft_is_fault, file_none, given_up, has_counts, has_shape, long_so, not_made, not_read_only, on_ok, put_in, refused_so}
 use Rattle.cms_disk.proofs.RecordsPut.{same_draft, same_some}
-use Rattle.cms_disk.proofs.minidisk.Minidisk.put.Goals as goal
+use Rattle.cms_disk.proofs.minidisk.Minidisk.put_at.Goals as goal
 
 pub returns-in_err-draft-clause-alters : goal.returns-in_err-draft-clause-alters
 returns-in_err-draft-clause-alters g c = λ j m records told is stands.
     let p = err_from_is_err_and c.from_residual.result c.from_residual.ensures.1 in
     let old = g.W.World.told c.args.world.now in
     let d = c.args.self.now in
-    let e = c.draft.new.self in
+    let e = c.draft_at.new.self in
     let name = c.args.name.now in
     let shape = c.shape_of-shape.result in
     let stamp = c.args.stamp.now in
@@ -62,7 +62,7 @@ returns-in_err-put_records-clause-alters g c = λ j m records told is stands.
     let old = g.W.World.told c.args.world.now in
     let new = g.W.World.told c.put_records.new.world in
     let d = c.args.self.now in
-    let e = c.draft.new.self in
+    let e = c.draft_at.new.self in
     let name = c.args.name.now in
     let shape = c.shape_of-shape.result in
     let stamp = c.args.stamp.now in
@@ -97,7 +97,7 @@ returns-clause-alters g c = λ j m records told is stands.
     let old = g.W.World.told c.args.world.now in
     let new = g.W.World.told c.commit.new.world in
     let d = c.args.self.now in
-    let e = c.draft.new.self in
+    let e = c.draft_at.new.self in
     let name = c.args.name.now in
     let shape = c.shape_of-shape.result in
     let stamp = c.args.stamp.now in
@@ -146,7 +146,7 @@ returns-clause-read_only g c =
 pub returns-clause-changes : goal.returns-clause-changes
 returns-clause-changes g c =
     let put = c.in_ok-put_records.ensures.changes in
-    changed_behind (seen g.W.World c.args.world.now) (seen g.W.World c.put_records.new.world) (seen g.W.World c.commit.new.world) c.args.self.now c.draft.new.self c.commit.new.self c.commit.result
+    changed_behind (seen g.W.World c.args.world.now) (seen g.W.World c.put_records.new.world) (seen g.W.World c.commit.new.world) c.args.self.now c.draft_at.new.self c.commit.new.self c.commit.result
     put.grown put.faults put.edges c.in_ok-draft.ensures.kept c.commit.ensures.changes
 
 pub returns-clause-holds : goal.returns-clause-holds
