@@ -1,3 +1,4 @@
 mod Printed
 mod Found
+mod HeldBytes
 mod Failures

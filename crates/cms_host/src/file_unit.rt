@@ -3,9 +3,12 @@ ghost use Rattle.std.specs.Prelude.{◌≡◌, ◌≤◌, ◌<◌, ◌↔◌, �
 ghost use Rattle.cms_journal.specs.Journal.{may_write};
 ghost use Rattle.cms_journal.specs.Limits.{most_blocks};
 ghost use Rattle.cms_host.specs.Deeds.{then_done, MayDo, opening_deeds, making_deeds, sharing_of};
+ghost use Rattle.cms_host.specs.FileBytes.{HasBytes};
+ghost use Rattle.cms_host.specs.HeldBytes.{HoldsTrue};
 ghost use Rattle.cms_host.specs.declared.system.Deed.TheVariants.{Wrote, Synced};
 ghost use Rattle.cms_host.specs.declared.system.Lock.TheVariants.{Refused};
 
+use crate::read_ahead::{Place, ReadAhead};
 use crate::system::{Lock, Sharing, System};
 use crate::trouble::Trouble;
 use cms_journal::MOST_BLOCKS;
@@ -40,20 +43,52 @@ impl FileUnit {
         has_it.then_some((block as u64).saturating_sub(1) * self.bsize as u64)
     }
 
+    // How many bytes may be read from a place on: those of the unit, where its file is locked, so that nobody else writes to it.
+    fn most(&self, place: u64) -> u64 {
+        match self.lock {
+            Lock::Taken => (self.blocks as u64 * self.bsize as u64).saturating_sub(place),
+            _ => 0,
+        }
+    }
+
     /// Reads a block, and says whether all of it was read.
-    pub fn read<S: System>(&self, system: &mut S, block: u32, into: &mut [u8]) -> bool
+    pub fn read<S: System>(
+        &self,
+        system: &mut S,
+        ahead: &mut ReadAhead,
+        block: u32,
+        into: &mut [u8],
+    ) -> bool
+        requires { HoldsTrue (S.files system.old) ahead.old }
         ensures has { IsTrue result
             → (length into.old ≡ self.now.bsize) × (1 ≤ block) × (block ≤ self.now.blocks) }
         ensures told { S.told system.new ≡ S.told system.old }
+        ensures bytes { IsTrue result → HasBytes (S.files system.old self.now.file)
+            ((block - 1) * self.now.bsize) into.new }
+        ensures held { HoldsTrue (S.files system.new) ahead.new }
     {
         match self.place(block, into.len()) {
-            Some(place) => system.read_at(self.file, into, place),
+            Some(byte) => {
+                let place = Place {
+                    file: self.file,
+                    byte,
+                };
+                ahead.read(system, place, self.most(byte), into)
+            }
             None => false,
         }
     }
 
     /// Writes a block, and says whether all of it was written.
-    pub fn write<S: System>(&self, system: &mut S, block: u32, from: &[u8]) -> bool
+    #[tactic(auto, using(crate::proofs::HeldBytes::write_lemmas))]
+    pub fn write<S: System>(
+        &self,
+        system: &mut S,
+        ahead: &mut ReadAhead,
+        block: u32,
+        from: &[u8],
+    ) -> bool
+        requires { HoldsTrue (S.files system.old) ahead.old }
         ensures has { IsTrue result
             → (length from.now ≡ self.now.bsize) × (1 ≤ block) × (block ≤ self.now.blocks) }
         ensures writable { IsTrue result → IsTrue self.now.writable }
@@ -62,9 +97,17 @@ impl FileUnit {
             (Wrote self.now.file ((block - 1) * self.now.bsize) from.now ∷ []) }
         ensures failed { MayDo (Wrote self.now.file ((block - 1) * self.now.bsize) from.now ∷ [])
             (S.told system.old) (S.told system.new) }
+        ensures held { HoldsTrue (S.files system.new) ahead.new }
     {
         match self.place(block, from.len()) {
-            Some(place) if self.writable => system.write_at(self.file, from, place),
+            Some(byte) if self.writable => {
+                let place = Place {
+                    file: self.file,
+                    byte,
+                };
+                ahead.let_go(place, from.len());
+                system.write_at(self.file, from, byte)
+            }
             _ => false,
         }
     }
@@ -75,6 +118,7 @@ impl FileUnit {
         ensures synced { IsTrue result → S.told system.new
             ≡ then_done (S.told system.old) (Synced self.old.file ∷ []) }
         ensures failed { result ≡ false → S.told system.new ≡ S.told system.old }
+        ensures files { S.files system.new ≡ S.files system.old }
         ensures believed { IsTrue self.old.lost → result ≡ false }
         ensures lost { self.new ≡ record self.old { lost = not result } }
     {

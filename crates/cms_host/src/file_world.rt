@@ -1,14 +1,18 @@
 // The world of real files, the standard streams and the system's clock.
-ghost use Rattle.std.specs.Prelude.{◌≡◌, ◌≢◌, ◌≤◌, ◌<◌, ◌↔◌, ◌-◌, ◌*◌, ◌⊎◌, [], ◌∷◌, ◌++◌, length, take, slice_get, vec_len, false, None, IfSome, IsNone, OnSome, IfOk, OnOk, OnErr, IsTrue, is_ok};
+ghost use Rattle.std.specs.Prelude.{◌≡◌, ◌≢◌, ◌≤◌, ◌<◌, ◌↔◌, ◌-◌, ◌*◌, ◌⊎◌, [], ◌∷◌, ◌++◌, length, take, slice_get, vec_len, false, None, IfSome, IsSomeAnd, IsNone, OnSome, IfOk, OnOk, OnErr, IsTrue, is_ok};
 ghost use Rattle.cms_journal.specs.Causes.{HasCause};
 ghost use Rattle.cms_journal.specs.Journal.{IsBlockSize};
 ghost use Rattle.cms_host.specs.Answers.{one_more};
 ghost use Rattle.cms_host.specs.Deeds.{Prints, PrintsThen, opening_deeds};
+ghost use Rattle.std.proofs.Props.{props};
+ghost use Rattle.cms_host.specs.FileBytes.{HasBytes};
+ghost use Rattle.cms_host.specs.HeldBytes.{HoldsTrue};
 ghost use Rattle.cms_host.specs.Units.{OnlyLoses, UnitDeeds};
 ghost use Rattle.cms_host.specs.declared.system.Deed.TheVariants.{Wrote, Synced, ScriptRead};
 
 use crate::file_unit::{FileUnit, open_unit};
 use crate::output::Gathered;
+use crate::read_ahead::ReadAhead;
 use crate::system::{Lock, System, Warning};
 use crate::trouble::Trouble;
 use cms_world::{Access, Failed, Unit, World};
@@ -26,16 +30,21 @@ mod tests;
 /// 65,536 bytes are gathered, and at the end; where output is taken line by line it isn't gathered. Where it can't be printed the
 /// call fails before it does anything, and what is left is tried again with the next call.
 ///
+/// Blocks that are read one behind the other are read together, where their image is locked, up to 65,536 bytes at a time. What a block
+/// gives is what its file has when it is asked for, and a failure is that of this block alone.
+///
 /// An image is locked as long as the world stands. A unit whose sync failed once isn't synced any more: each later sync of it fails.
 #[derive(Drop)]
 pub struct FileWorld<S: System + Drop> {
     system: S,
     output: Gathered,
+    ahead: ReadAhead,
     units: Vec<FileUnit>,
     faults: u64,
     edges: u64,
     trouble: Option<Trouble>,
     warned: bool,
+    ghost held: { HoldsTrue (S.files system) ahead } by { Prim.hlevel props },
 }
 
 impl<S: System + Drop> FileWorld<S> {
@@ -48,6 +57,7 @@ impl<S: System + Drop> FileWorld<S> {
         Ok(FileWorld {
             system,
             output: Gathered::new(alloc, lines)?,
+            ahead: ReadAhead::new(alloc),
             units: Vec::new(alloc),
             faults: 0,
             edges: 0,
@@ -104,6 +114,7 @@ impl<S: System + Drop> FileWorld<S> {
         let Ok(number) = u8::try_from(self.units.len()) else {
             return Err(Trouble::Image(io::Error::from(ErrorKind::QuotaExceeded)));
         };
+        self.ahead.clear();
         let unit = open_unit(&mut self.system, name, bsize, access)?;
         match self.units.push(unit) {
             Ok(()) => Ok(Unit {
@@ -160,6 +171,8 @@ impl<S: System + Drop> FileWorld<S> {
 
     // Reads a block of a unit, and says whether all of it was read.
     fn read_unit(&mut self, unit: u8, block: u32, into: &mut [u8]) -> bool
+        ensures bytes { IsTrue result → IsSomeAnd (slice_get self.old.units.items unit)
+            (λ u. HasBytes (S.files self.old.system u.file) ((block - 1) * u.bsize) into.new) }
         ensures told { S.told self.new.system ≡ S.told self.old.system }
         ensures output { self.new.output ≡ self.old.output }
         ensures units { self.new.units.items ≡ self.old.units.items }
@@ -167,7 +180,7 @@ impl<S: System + Drop> FileWorld<S> {
         ensures edges { self.new.edges ≡ self.old.edges }
     {
         match self.units.get(unit as usize) {
-            Some(unit) => unit.read(&mut self.system, block, into),
+            Some(unit) => unit.read(&mut self.system, &mut self.ahead, block, into),
             None => false,
         }
     }
@@ -189,7 +202,7 @@ impl<S: System + Drop> FileWorld<S> {
     {
         let printed = self.finish();
         match self.units.get(unit as usize) {
-            Some(unit) if printed => unit.write(&mut self.system, block, from),
+            Some(unit) if printed => unit.write(&mut self.system, &mut self.ahead, block, from),
             _ => false,
         }
     }
@@ -308,6 +321,8 @@ impl<S: System + Drop> World for FileWorld<S> {
     }
 
     fn read_block(&mut self, unit: u8, block: u32, into: &mut [u8]) -> Result<(), Failed>
+        ensures bytes { OnOk result (IsSomeAnd (slice_get self.old.units.items unit)
+            (λ u. HasBytes (S.files self.old.system u.file) ((block - 1) * u.bsize) into.new)) }
         ensures done { S.told self.new.system ≡ S.told self.old.system }
         ensures output { self.new.output ≡ self.old.output }
         ensures units { self.new.units.items ≡ self.old.units.items }

@@ -8,6 +8,7 @@ mod host;
 #[cfg(test)]
 mod logged;
 mod output;
+mod read_ahead;
 mod system;
 mod trouble;
 

@@ -11,7 +11,8 @@ use std::io::ErrorKind;
 
 /// A system without files, which tells what it did, and writes down each call as a character: `O` opens an image and `L` asks for
 /// its lock, `S` gives it its size, `Y` syncs it and `D` its folder, `G` reads a block and `W` writes one, `R` reads the script and
-/// `!` warns. What is printed stands there itself, three bytes at a time at most.
+/// `!` warns. What is printed stands there itself, three bytes at a time at most. Files 0 and 1 have eight blocks, each of which begins
+/// with a letter, that of what was written there last; where it is a hyphen the block can't be read.
 #[derive(Drop)]
 pub(crate) struct Logged {
     alloc: Global,
@@ -19,6 +20,7 @@ pub(crate) struct Logged {
     pub log: String,
     pub room: usize,
     pub lock: Lock,
+    pub blocks: [u8; 16],
     pub files: usize,
     pub sync_fails: bool,
     pub folder_fails: bool,
@@ -39,6 +41,7 @@ impl Logged {
             log: String::new(alloc),
             room: 0,
             lock: Lock::Taken,
+            blocks: *b"abcdefghstuvwxyz",
             files: 0,
             sync_fails: false,
             folder_fails: false,
@@ -50,6 +53,32 @@ impl Logged {
         ensures { self.new.deeds.items ≡ self.old.deeds.items }
     {
         let _ = self.log.push(call);
+    }
+
+    // The letter of a block, counted from 0, that can be read.
+    fn letter(&self, file: usize, block: usize) -> Option<u8> {
+        if block > 7 {
+            return None;
+        }
+        match self
+            .blocks
+            .get(file.saturating_mul(8).saturating_add(block))
+        {
+            Some(b'-') => None,
+            letter => letter.copied(),
+        }
+    }
+
+    // Gives a block the letter of what is written there.
+    fn put(&mut self, file: usize, place: u64, from: &[u8])
+        ensures { self.new.deeds.items ≡ self.old.deeds.items }
+    {
+        let block = file
+            .saturating_mul(8)
+            .saturating_add((place / 512) as usize);
+        if let (Some(letter), Some(byte)) = (self.blocks.get_mut(block), from.first()) {
+            *letter = *byte;
+        }
     }
 
     fn did(&mut self, deed: Deed) -> io::Result<()>
@@ -106,8 +135,15 @@ impl System for Logged {
         self.did(Deed::FolderSynced(name))
     }
 
-    fn read_at(&mut self, _file: usize, _into: &mut [u8], _place: u64) -> bool {
+    fn read_at(&mut self, file: usize, into: &mut [u8], place: u64) -> bool {
         self.asked('G');
+        for block in 0..into.len() / 512 {
+            let Some(letter) = self.letter(file, block.saturating_add((place / 512) as usize))
+            else {
+                return false;
+            };
+            into[block * 512] = letter;
+        }
         true
     }
 
@@ -116,6 +152,7 @@ impl System for Logged {
         if self.write_fails {
             return false;
         }
+        self.put(file, place, from);
         match Bytes::of(self.alloc, from) {
             Ok(bytes) => self.did(Deed::Wrote(file, place, bytes)).is_ok(),
             Err(_) => false,

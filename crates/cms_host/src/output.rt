@@ -18,6 +18,7 @@ fn print_front<S: System>(system: &mut S, from: &[u8]) -> usize
     ensures within { result ≤ length from.now }
     ensures printed { S.told system.new
         ≡ then_done (S.told system.old) (printing (take result from.now)) }
+    ensures files { S.files system.new ≡ S.files system.old }
 {
     let mut printed = 0;
     while printed < from.len() {
@@ -65,6 +66,7 @@ impl Gathered {
     pub fn flush<S: System>(&mut self, system: &mut S) -> bool
         ensures all { IsTrue result ↔ (self.new ≡ []) }
         ensures prints { Prints self.old self.new (S.told system.old) (S.told system.new) }
+        ensures files { S.files system.new ≡ S.files system.old }
     {
         let count = print_front(system, &self.bytes[self.printed..]);
         self.printed += count;
@@ -106,6 +108,7 @@ impl Gathered {
             Prints (self.old ++ take n from.now) self.new (S.told system.old) (S.told system.new)) }
         ensures failed { IsNone result
             → Prints self.old self.new (S.told system.old) (S.told system.new) }
+        ensures files { S.files system.new ≡ S.files system.old }
     {
         if self.gather(from) {
             return Some(from.len());

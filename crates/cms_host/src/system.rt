@@ -1,5 +1,6 @@
 // What a world of files asks of the system that it runs on.
-ghost use Rattle.std.specs.Prelude.{◌≡◌, ◌≤◌, ◌<◌, ℕ, List, [], ◌∷◌, length, take, Option, false, IfOk, OnOk, IfSome, OnSome, IsNone, IsTrue};
+ghost use Rattle.std.specs.Prelude.{◌≡◌, ◌≤◌, ◌<◌, ℕ, List, [], ◌∷◌, length, take, Option, None, false, IfOk, OnOk, IfSome, OnSome, IsNone, IsTrue};
+ghost use Rattle.cms_host.specs.FileBytes.{HasBytes, KeepsBut};
 ghost use Rattle.cms_host.specs.Deeds.{then_done, MayDo, printing, lock_deeds};
 ghost use Rattle.cms_host.specs.declared.system.Deed.{Deed};
 ghost use Rattle.cms_host.specs.declared.system.Deed.TheVariants.{Opened, Sized, Wrote, Synced, FolderSynced, ScriptRead};
@@ -68,6 +69,9 @@ pub trait System {
     /// What was done, or none where the system doesn't tell it.
     ghost told: { Self → Option (List Deed) };
 
+    /// The bytes of each file, by its number, or none where the system doesn't tell them.
+    ghost files: { Self → ℕ → Option (List ℕ) } = { λ system file. None };
+
     /// Opens the image of a name, or makes one without bytes where it is to be new and no file has the name. What isn't a plain
     /// file is refused.
     fn open(&mut self, name: &str, access: Access) -> io::Result<usize>
@@ -94,19 +98,23 @@ pub trait System {
 
     /// Reads bytes from a place of a file on, and says whether all of them were read.
     fn read_at(&mut self, file: usize, into: &mut [u8], place: u64) -> bool
-        ensures { told self.new ≡ told self.old };
+        ensures told { told self.new ≡ told self.old }
+        ensures files { files self.new ≡ files self.old }
+        ensures bytes { IsTrue result → HasBytes (files self.old file) place into.new };
 
     /// Writes bytes from a place of a file on, and says whether all of them were written.
     fn write_at(&mut self, file: usize, from: &[u8], place: u64) -> bool
         ensures wrote { IsTrue result → told self.new
             ≡ then_done (told self.old) (Wrote file place from.now ∷ []) }
-        ensures failed { MayDo (Wrote file place from.now ∷ []) (told self.old) (told self.new) };
+        ensures failed { MayDo (Wrote file place from.now ∷ []) (told self.old) (told self.new) }
+        ensures files { KeepsBut file place (length from.now) (files self.old) (files self.new) };
 
     /// Waits until all that was written to a file is on its device, and says whether it is.
     fn sync(&mut self, file: usize) -> bool
         ensures synced { IsTrue result → told self.new
             ≡ then_done (told self.old) (Synced file ∷ []) }
-        ensures failed { result ≡ false → told self.new ≡ told self.old };
+        ensures failed { result ≡ false → told self.new ≡ told self.old }
+        ensures files { files self.new ≡ files self.old };
 
     /// Prints bytes from the front of a slice that isn't empty, one at least: how many, or none where it can't.
     fn print(&mut self, from: &[u8]) -> Option<usize>
@@ -114,19 +122,23 @@ pub trait System {
         ensures within { IfSome result (λ n. (0 < n) × (n ≤ length from.now)) }
         ensures printed { IfSome result (λ n. told self.new
             ≡ then_done (told self.old) (printing (take n from.now))) }
-        ensures failed { IsNone result → told self.new ≡ told self.old };
+        ensures failed { IsNone result → told self.new ≡ told self.old }
+        ensures files { files self.new ≡ files self.old };
 
     /// Reads the next bytes of the script into the front of a slice: how many, of which none are its end, or none where it can't.
     fn read(&mut self, into: &mut [u8]) -> Option<usize>
         ensures within { IfSome result (λ n. n ≤ length into.old) }
         ensures done { OnSome result (told self.new ≡ then_done (told self.old) (ScriptRead ∷ [])) }
-        ensures failed { MayDo (ScriptRead ∷ []) (told self.old) (told self.new) };
+        ensures failed { MayDo (ScriptRead ∷ []) (told self.old) (told self.new) }
+        ensures files { files self.new ≡ files self.old };
 
     /// The seconds since 1970-01-01 00:00:00 UTC, 0 before that; none where the clock can't be read.
     fn seconds(&mut self) -> Option<i64>
-        ensures { told self.new ≡ told self.old };
+        ensures told { told self.new ≡ told self.old }
+        ensures files { files self.new ≡ files self.old };
 
     /// Tells a person.
     fn warn(&mut self, warning: Warning)
-        ensures { told self.new ≡ told self.old };
+        ensures told { told self.new ≡ told self.old }
+        ensures files { files self.new ≡ files self.old };
 }

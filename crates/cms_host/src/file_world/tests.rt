@@ -114,6 +114,87 @@ fn what_is_asked_of_the_system_comes_in_order(rt: HostRuntime) -> Result<(), Fai
     Ok(())
 }
 
+// Where the block of a letter stands, a small or a capital one: `a` is the first block of the first unit, `s` that of the second.
+fn place_of(letter: u8) -> (u8, u32) {
+    let letter = letter.to_ascii_lowercase();
+    if letter < b's' {
+        (0, u32::from(letter.saturating_sub(b'a' - 1)))
+    } else {
+        (1, u32::from(letter.saturating_sub(b's' - 1)))
+    }
+}
+
+// A small letter reads its block, and the letter that stands there is written down, or a hyphen; a capital one is written to its block;
+// and from a digit on that block of the first unit can't be read.
+fn read_or_write(world: &mut FileWorld<Logged>, step: u8) -> Result<(), AllocError> {
+    let (unit, block) = place_of(step);
+    let mut bytes = [step; 512];
+    if step.is_ascii_digit() {
+        let block = usize::from(step.saturating_sub(b'1'));
+        if let Some(letter) = world.system.blocks.get_mut(block) {
+            *letter = b'-';
+        }
+        return Ok(());
+    }
+    if step.is_ascii_uppercase() {
+        let _ = world.write_block(unit, block, &bytes);
+        return Ok(());
+    }
+    let went = world.read_block(unit, block, &mut bytes).is_ok();
+    let letter = if went { char::from(bytes[0]) } else { '-' };
+    world.system.log.push(letter)
+}
+
+// What two units ask of their system at these steps, and what they read; and how many calls failed.
+fn read(rt: &HostRuntime, lock: Lock, steps: &str) -> io::Result<String> {
+    let mut world = FileWorld::new(rt.alloc(), Logged::new(rt.alloc()), false)?;
+    world.system.lock = lock;
+    for name in ["i", "j"] {
+        let _ = world.attach(name, 512, Access::New(8));
+    }
+    world.system.log.clear();
+    for step in steps.bytes() {
+        read_or_write(&mut world, step)?;
+    }
+    let log = world.system.log.as_str();
+    Ok(format!(in rt.alloc(); "{log} {}", world.faults)?)
+}
+
+const READ_ROWS: &[(Lock, &str, &str)] = &[
+    // blocks that follow each other are read two, four and eight at a time, up to the unit's end; others alone
+    (Lock::Taken, "abcdefgh", "GaGbcGdefgGh 0"),
+    (Lock::Taken, "acegb", "GaGcGeGgGb 0"),
+    (Lock::Taken, "abcbad", "GaGbcbGaGd 0"),
+    // where more than a block can't be read, by a bad block or the file's end, it is read alone, and a failure is that of its own block
+    (Lock::Taken, "5abcdefg", "GaGbcGGdGG-Gfg 1"),
+    (Lock::Taken, "678abcdefgh", "GaGbcGGdGGeGG-GG-G- 3"),
+    // a block that was read before it was asked for is read again once it is written, and isn't once another one is
+    (Lock::Taken, "abCcd", "GaGbWGCd 0"),
+    (Lock::Taken, "abDcd", "GaGbWcGD 0"),
+    (Lock::Taken, "abTcd", "GaGbWcGd 0"),
+    // what was read of one unit is nothing for the other
+    (Lock::Taken, "abtuc", "GaGbGtGuGc 0"),
+    // where locks aren't known each block is read alone, since another program may write to it
+    (Lock::Unknown, "abcd", "GaGbGcGd 0"),
+];
+
+// The first row that comes out otherwise; nothing where there is none.
+fn other_read_row(rt: &HostRuntime) -> io::Result<String> {
+    for (lock, steps, wanted) in READ_ROWS {
+        let log = read(rt, *lock, steps)?;
+        if log.as_str() != *wanted {
+            return Ok(format!(in rt.alloc(); "{steps}: {log}")?);
+        }
+    }
+    Ok(String::new(rt.alloc()))
+}
+
+#[test]
+fn blocks_that_follow_each_other_are_read_together(rt: HostRuntime) -> Result<(), Fail> {
+    assert_eq!(rt; other_read_row(&rt)?.as_str(), "");
+    Ok(())
+}
+
 // What comes of attaching images, each with a semicolon behind it: the unit's number and its blocks, or a hyphen.
 fn push_attached<S: System + Drop>(
     told: &mut String,

@@ -14,4 +14,5 @@ loop-printed-preserved g c =
       inside = omega (arith, c.in-Some.ensures.within, length-drop p from, length-take {A = ℕ});
       told = printed_further from p n (g.S.System.told c.args.system.now) before (g.S.System.told c.print.new.self) c.loop-printed.invariant.told
           (c.in-Some.ensures.printed ∙ ap (λ (bytes : List ℕ). then_done before (printing (take n bytes))) (take_rest from p));
+      files = c.in-Some.ensures.files ∙ c.loop-printed.invariant.files;
     }

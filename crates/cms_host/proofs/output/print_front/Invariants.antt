@@ -6,6 +6,7 @@ abbrev pub invariant-loop-printed : goal.invariant-loop-printed
 invariant-loop-printed g l = record {
   inside : l.printed ≤ length l.from;
   told : g.S.System.told l.system ≡ then_done (g.S.System.told l.fn.system) (printing (take l.printed l.from));
+  files : g.S.System.files l.system ≡ g.S.System.files l.fn.system;
 }
 
 abbrev pub decreases-loop-printed : goal.decreases-loop-printed
