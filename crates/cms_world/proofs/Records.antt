@@ -1,14 +1,16 @@
 -- What a recorder keeps, event by event and unit by unit.
-use Rattle.std.proofs.Common.{◌≡◌, ◌≢◌, ◌⊎◌, inl, inr, ℕ, zero, suc, ◌+◌, ◌-◌, ◌<◌, ◌≤◌, List, [], ◌∷◌, ◌++◌, length, refl, sym, ap, ◌∙◌, All, slice_get, slice_index_or, slice_set, None, Some, length-append, arith}
+use Rattle.std.proofs.Common.{Result, Ok, Err, is_ok, is_err, true, false, if◌then◌else◌, reverse, take, ◌≡◌, ◌≢◌, ◌⊎◌, inl, inr, ℕ, zero, suc, ◌+◌, ◌-◌, ◌<◌, ◌≤◌, List, [], ◌∷◌, ◌++◌, length, refl, sym, ap, ◌∙◌, All, slice_get, slice_index_or, slice_set, None, Some, length-append, arith}
 use Rattle.std.proofs.lemmas.Bool.Decides.{nat_tests, eqb_tells}
 use Rattle.std.proofs.lemmas.Option.{slice_get_cases}
 use Rattle.std.proofs.lemmas.Grind.{get_or-set_at}
-use Rattle.std.proofs.lemmas.List.{length-set, get_or-set_other, get_or_append_left, get_or-append_right}
+use Rattle.std.specs.Prelude.{⊤}
+use Rattle.std.proofs.lemmas.Bool.{true≢false}
+use Rattle.std.proofs.lemmas.List.{take-append-le, take_all, reverse-append, length-set, get_or-set_other, get_or_append_left, get_or-append_right}
 use Rattle.std.proofs.lemmas.List.Elements.{All-get_or}
 use Rattle.cms_journal.specs.declared.event.Event.{Event}
 use Rattle.cms_journal.specs.declared.event.Event.TheVariants.{Read, Now, Typed, Wrote, Synced, Missed}
 use Rattle.cms_journal.specs.declared.event.Attached.{Attached}
-use Rattle.cms_journal.specs.Journal.{HasUnit, HasBlock, block_after, contents, start_of, typed_of}
+use Rattle.cms_journal.specs.Journal.{Journal, HasUnit, HasBlock, block_after, contents, start_of, typed_of}
 use Rattle.cms_journal.specs.Laws.{NoneWrote}
 use Rattle.cms_journal.proofs.Crashes.{unwritten_now, untouched_unwritten, contents_unwritten, contents_start, length-contents, get-contents, changes_nothing}
 use Rattle.cms_journal.proofs.Steps.{contents_wrote}
@@ -127,6 +129,12 @@ get_or-default (x ∷ xs) zero d e within = refl
 get_or-default (x ∷ xs) (suc i) d e within = get_or-default xs i d e (omega arith)
 
 -- the blocks that are kept of a unit, as an index reads them
+pub current_at : (units : List Attached) (current : List (List (List ℕ))) (events : List Event) (typed : List ℕ) (u : ℕ) (held : List (List ℕ)) → u < length units
+    → IsRecord units current events typed → held ≡ slice_index_or current u held → held ≡ contents events u (start_of units u)
+current_at units current events typed u held within is read =
+    let inside : u < length current = omega (arith, is.same_length, within) in
+    read ∙ get_or-default current u held [] inside ∙ is.current_is u within
+
 pub record_read : (units : List Attached) (current : List (List (List ℕ))) (events : List Event) (typed : List ℕ) (u k size : ℕ) (held : List (List ℕ)) → HasBlock units u k size
     → IsRecord units current events typed → held ≡ slice_index_or current u held
     → (held ≡ contents events u (start_of units u)) × (k - 1 < length held)
@@ -208,3 +216,37 @@ record_attach units current unit events typed start is = record {
   to_come = λ u above. is.to_come u (omega (arith, simp length-append at above));
   typed_is = is.typed_is;
 }
+
+-- ---- the journal that is seen
+
+abbrev pub journal : List Attached → List Event → Journal
+journal units events = record { units = units; events = events }
+
+-- one more event
+pub view_more : (units : List Attached) (old new : List Event) (event : Event) (j : Journal) → new ≡ old ++ event ∷ [] → journal units (reverse old) ≡ j
+    → journal units (reverse new) ≡ journal j.units (event ∷ j.events)
+view_more units old new event j is view = rw (is, reverse-append) (ap (λ (i : Journal). journal i.units (event ∷ i.events)) view)
+
+-- no more events
+pub view_same : (units units' : List Attached) (old new : List Event) (j : Journal) → units' ≡ units → new ≡ old → journal units (reverse old) ≡ j → journal units' (reverse new) ≡ j
+view_same units units' old new j same is view = rw (same, is) view
+
+-- one more unit
+pub view_unit : (units new : List Attached) (unit : Attached) (events : List Event) (j : Journal) → new ≡ units ++ unit ∷ [] → journal units events ≡ j
+    → journal new events ≡ journal (j.units ++ unit ∷ []) j.events
+view_unit units new unit events j is view = rw is (ap (λ (i : Journal). journal (i.units ++ unit ∷ []) i.events) view)
+
+-- ---- what a push leaves
+
+pub pushed_err : {A E : Type 0} (r : Result ⊤ E) (items : List A) (x : A) (new : List A) → new ≡ (if is_ok r then items ++ x ∷ [] else items) → is_err r ≡ true → new ≡ items
+pushed_err (Ok u) items x new is err = absurd (true≢false (sym err))
+pushed_err (Err e) items x new is err = is
+
+pub pushed_ok : {A E : Type 0} (r : Result ⊤ E) (items : List A) (x : A) (new : List A) → new ≡ (if is_ok r then items ++ x ∷ [] else items) → is_err r ≡ false → new ≡ items ++ x ∷ []
+pushed_ok (Ok u) items x new is ok = is
+pushed_ok (Err e) items x new is ok = absurd (true≢false ok)
+
+-- what was added is cut off again
+pub cut_back : {A : Type 0} (xs ys new out : List A) (n : ℕ) → new ≡ xs ++ ys → n ≡ length xs → out ≡ take n new → out ≡ xs
+cut_back {A} xs ys new out n is long cut =
+    cut ∙ (ap (λ (l : List A). take n l) is ∙ (take-append-le n xs ys (omega (arith, long)) ∙ take_all n xs (omega (arith, long))))

@@ -65,10 +65,10 @@ impl Recorder {
             ≡ record { units = self.old.units; events = Typed bytes.now ∷ self.old.events }) }
         ensures err { OnErr result (self.new ≡ self.old) }
     {
-        let event = Event::Typed(Bytes::of(alloc, bytes)?);
+        let copy = Bytes::of(alloc, bytes)?;
         let before = self.typed.len();
         self.typed.extend_from_slice(bytes)?;
-        match self.events.push(event) {
+        match self.events.push(Event::Typed(copy)) {
             Ok(()) => Ok(()),
             Err(_) => {
                 self.typed.truncate(before);
