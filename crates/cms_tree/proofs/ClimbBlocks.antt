@@ -1,5 +1,5 @@
 -- A pointer block while a climb fills it.
-use Rattle.std.proofs.Common.{◌≡◌, ◌⊎◌, inl, inr, ⊎_elim, ℕ, suc, min, cond, eqb, ltb, ◌+◌, ◌-◌, ◌*◌, ◌/◌, ◌%◌, ◌<◌, ◌≤◌, true, false, List, [], ◌∷◌, ◌++◌, length, take, drop, get_or, Option, Some, None, refl, sym, ◌∙◌, ap, subst, arith, append-nil, append_assoc, length-append, div-add-mod', mod-lt, mul-le-mul_right}
+use Rattle.std.proofs.Common.{◌^◌, mul_comm, ◌≡◌, ◌⊎◌, inl, inr, ⊎_elim, ℕ, suc, min, cond, eqb, ltb, ◌+◌, ◌-◌, ◌*◌, ◌/◌, ◌%◌, ◌<◌, ◌≤◌, true, false, List, [], ◌∷◌, ◌++◌, length, take, drop, get_or, Option, Some, None, refl, sym, ◌∙◌, ap, subst, arith, append-nil, append_assoc, length-append, div-add-mod', mod-lt, mul-le-mul_right}
 use Rattle.std.specs.Prelude.{replicate, unwrap_or}
 use Rattle.std.proofs.lemmas.Bool.{cases_lt, cases_eq, cond-true, cond-false, eqb-true, eqb-false, eq-eqb, ne_eqb, both_ways, le-ltb, lt-ltb}
 use Rattle.std.proofs.lemmas.Nat.{div-mul-add, mod-mul-add, div_below}
@@ -512,3 +512,27 @@ stands_ends bsize psize fan child fan_is is = subst (λ (n : ℕ). ends_group n 
 pub may_add_front : (event : Event) (old new : Told) (events : List Event) → event ∷ [] ≡ events → MayAdd event old new → AddsFront old new events
 may_add_front event old new events is (inl same) = record { front = []; told = same; is = record { rest = events; is = refl } }
 may_add_front event old new events is (inr more) = record { front = event ∷ []; told = more; is = record { rest = []; is = is } }
+
+-- ---- the pointers of a block
+
+pub some_pointer : (psize : ℕ) → (psize ≡ 4) ⊎ (psize ≡ 12) → 0 < psize
+some_pointer psize kind = omega arith
+
+whole_pointers : (bsize psize : ℕ) → 0 < psize → bsize / psize * psize ≤ bsize
+whole_pointers bsize psize some = omega (arith, mul_comm (bsize / psize) psize)
+
+pub pointers_fit : (bsize psize n : ℕ) → (psize ≡ 4) ⊎ (psize ≡ 12) → n ≡ bsize → bsize / psize * psize ≤ n
+pointers_fit bsize psize n kind long = subst (λ (m : ℕ). bsize / psize * psize ≤ m) (sym long) (whole_pointers bsize psize (some_pointer psize kind))
+
+pub short_block : (bsize n : ℕ) → IsBlockSize bsize → n ≡ bsize → n < 2 ^ 32
+short_block bsize n size long = omega arith
+
+-- a pointer of a group lies within its block
+pub pointer_fits : (bsize psize n k : ℕ) → IsBlockSize bsize → (psize ≡ 4) ⊎ (psize ≡ 12) → n ≡ bsize → k % (bsize / psize) * psize + psize ≤ n
+pointer_fits bsize psize n k size kind long =
+    let fan = bsize / psize in
+    let some = some_fan bsize psize size kind in
+    let less : k % fan < fan = omega (arith, some) in
+    let wide : suc (k % fan) * psize ≤ fan * psize = mul-le-mul_right psize less in
+    let fits = pointers_fit bsize psize n kind long in
+    omega (arith, wide, fits)

@@ -1,3 +1,4 @@
+pub mod Exits
 pub mod Sums
 pub mod Blocks
 pub mod Rest

@@ -118,3 +118,11 @@ levels_room fan blocks wide narrow small = go (levels fan blocks) (levels_needs 
         let whole = pow-suc fan k in
         let more : fan ^ k * fan ≤ fan ^ k * 1024 = mul-le-mul_left (fan ^ k) narrow in
         omega arith
+
+-- a loop's counter came to the end
+pub reached : (n end all : ℕ) → end ≤ n → n ≤ end → end ≡ all → n ≡ all
+reached n end all past within is = omega arith
+
+-- nothing is left
+pub left_none : (done left all : ℕ) → done + left ≡ all → left ≡ 0 → done ≡ all
+left_none done left all sum none = omega arith

@@ -12,6 +12,8 @@ use Rattle.cms_tree.specs.Paths.{levels_of}
 use Rattle.cms_tree.specs.Resumes.{IsClear, tiers_above, ResumesOne, ResumesAll}
 use Rattle.cms_tree.proofs.BuiltTrees.{fan_wide}
 use Rattle.cms_tree.proofs.Resumes.{IsAbove, length-levels_of, above_pointers, above_each, kept_within, kept_low, partly_within, resumes_nothing, resumes_more, tiers_next}
+use Rattle.cms_tree.proofs.ClimbBlocks.{some_pointer}
+use Rattle.cms_tree.proofs.Exits.{counts_err, counts_none, counts_on, ok_at_err}
 use Rattle.cms_tree.proofs.climb.+resume_levels.Goals as goal
 
 pub returns-in_default-clause-resumes : goal.returns-in_default-clause-resumes
@@ -152,3 +154,42 @@ returns-clause-resumes g t c =
     resumes_more told a.unit a.bsize a.psize tiers tiers' b b' level above own place is_above next all
     (subst (λ (t : Told). ResumesOne t a.unit a.bsize a.psize tiers b own level place) c.resume_levels.ensures.told (here size leaves one count_is)))
     c.resume_level.ensures.resumes
+
+pub returns-in_default-clause-told : goal.returns-in_default-clause-told
+returns-in_default-clause-told g t c = refl
+
+pub returns-in_default-clause-counts : goal.returns-in_default-clause-counts
+returns-in_default-clause-counts g t c = counts_none _
+
+pub nonzero_div-fan : goal.nonzero_div-fan
+nonzero_div-fan g t c = rw c.from.ensures (some_pointer c.args.psize c.requires.psize)
+
+pub returns-in_err-own-clause-resumes : goal.returns-in_err-own-clause-resumes
+returns-in_err-own-clause-resumes g t c = ok_at_err _ c.from_residual.result _ c.from_residual.ensures.1
+
+pub returns-in_err-own-clause-told : goal.returns-in_err-own-clause-told
+returns-in_err-own-clause-told g t c = c.in_err-own.ensures.told
+
+pub returns-in_err-own-clause-counts : goal.returns-in_err-own-clause-counts
+returns-in_err-own-clause-counts g t c = counts_err c.from_residual.result c.in_err-own.ensures.counts
+
+pub resume_level-requires-clause-size : goal.resume_level-requires-clause-size
+resume_level-requires-clause-size g t c = c.requires.size
+
+pub resume_level-requires-clause-psize : goal.resume_level-requires-clause-psize
+resume_level-requires-clause-psize g t c = c.requires.psize
+
+pub resume_level-requires-clause-pointers : goal.resume_level-requires-clause-pointers
+resume_level-requires-clause-pointers g t c = c.requires.pointers
+
+pub resume_level-requires-clause-kept : goal.resume_level-requires-clause-kept
+resume_level-requires-clause-kept g t c = c.requires.kept
+
+pub resume_level-requires-clause-partly : goal.resume_level-requires-clause-partly
+resume_level-requires-clause-partly g t c = c.requires.partly
+
+pub returns-clause-told : goal.returns-clause-told
+returns-clause-told g t c = c.resume_level.ensures.told ∙ c.in_ok-own.ensures.told
+
+pub returns-clause-counts : goal.returns-clause-counts
+returns-clause-counts g t c = counts_on c.in_ok-own.ensures.counts c.resume_level.ensures.counts

@@ -15,6 +15,7 @@ use Rattle.cms_tree.proofs.ClimbBlocks.{div_mono, some_fan, tier_next}
 use Rattle.cms_tree.proofs.ClimbSteps.{rises_nothing, rises_no_more, rises_on, rises_failed, units_kept}
 use Rattle.cms_model.proofs.Members.{In-left, In-right}
 use Rattle.cms_tree.proofs.Own.{own_none, own_some, own_twice, own_grown}
+use Rattle.cms_tree.proofs.Exits.{counts_err, counts_none, counts_ok, counts_on}
 use Rattle.cms_tree.proofs.climb.+rise.Goals as goal
 
 pub returns-in_default-clause-rises : goal.returns-in_default-clause-rises
@@ -202,3 +203,36 @@ returns-in-None-clause-rises g t c = λ leaves marks numbers node tier es fresh_
     subst (λ (l : List Level). Rises old new a.unit a.bsize a.psize leaves marks numbers node tier es a.child.now l (c.lift.new.level ∷ above) (Ok tt)) (sym whole)
     (rises_no_more old new a.unit a.bsize a.psize leaves marks numbers node tier es a.child.now c.in-Some.level.now c.lift.new.level above
     (some_fan a.bsize a.psize c.requires.size c.requires.psize) stand' lifted)
+
+pub returns-in_default-clause-sizes : goal.returns-in_default-clause-sizes
+returns-in_default-clause-sizes g t c = c.requires.levels
+
+pub returns-in_default-clause-counts : goal.returns-in_default-clause-counts
+returns-in_default-clause-counts g t c = counts_none _
+
+pub lift-requires-clause-size : goal.lift-requires-clause-size
+lift-requires-clause-size g t c = c.requires.size
+
+pub lift-requires-clause-psize : goal.lift-requires-clause-psize
+lift-requires-clause-psize g t c = c.requires.psize
+
+pub lift-requires-clause-within : goal.lift-requires-clause-within
+lift-requires-clause-within g t c = c.requires.within
+
+pub lift-requires-clause-blocks : goal.lift-requires-clause-blocks
+lift-requires-clause-blocks g t c = c.requires.blocks
+
+pub lift-requires-clause-writable : goal.lift-requires-clause-writable
+lift-requires-clause-writable g t c = c.requires.writable
+
+pub returns-in_err-parent-clause-counts : goal.returns-in_err-parent-clause-counts
+returns-in_err-parent-clause-counts g t c = counts_err c.from_residual.result c.in_err-parent.ensures.counts
+
+pub returns-in-Some-2-clause-sizes : goal.returns-in-Some-2-clause-sizes
+returns-in-Some-2-clause-sizes g t c = All-cons (HasSize c.args.bsize) c.lift.new.level c.rise.new.levels c.in_ok-parent.ensures.size c.rise.ensures.sizes
+
+pub returns-in-Some-2-clause-counts : goal.returns-in-Some-2-clause-counts
+returns-in-Some-2-clause-counts g t c = counts_on c.in_ok-parent.ensures.counts c.rise.ensures.counts
+
+pub returns-in-None-clause-counts : goal.returns-in-None-clause-counts
+returns-in-None-clause-counts g t c = counts_ok c.in_ok-parent.ensures.counts

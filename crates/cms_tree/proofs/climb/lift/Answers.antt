@@ -2,14 +2,16 @@ use Rattle.std.proofs.Common.{◌≡◌, inr, ◌≤◌, ℕ, ◌/◌, ◌<◌, 
 use Rattle.std.specs.Prelude.{replicate}
 use Rattle.std.proofs.lemmas.Result.{err_from_is_err_and}
 use Rattle.std.proofs.lemmas.List.Elements.{All-get_or}
+use Rattle.std.proofs.lemmas.List.{length-replicate}
 use Rattle.cms_journal.specs.Journal.{HasBlock}
 use Rattle.cms_journal.specs.Told.{plus}
 use Rattle.cms_fields.specs.Numbers.{up}
 use Rattle.cms_tree.specs.Tiers.{ends_group}
-use Rattle.cms_tree.proofs.ClimbBlocks.{Pointed, Stands, some_fan, stands_on, stands_whole, stands_parent, stands_next, stands_ends, may_add_front, group_within, div_mono}
+use Rattle.cms_tree.proofs.ClimbBlocks.{Pointed, Stands, some_fan, stands_on, stands_whole, stands_parent, stands_next, stands_ends, may_add_front, group_within, div_mono, pointers_fit, short_block, some_pointer}
 use Rattle.cms_model.specs.Lists.{In}
 use Rattle.cms_tree.proofs.Own.{may_add_own, own_none, in_behind}
 use Rattle.cms_tree.proofs.Sums.{div_ceil_is}
+use Rattle.cms_tree.proofs.Exits.{counts_none, holds_at_err, ok_at_err}
 use Rattle.cms_tree.proofs.climb.lift.Given as given
 use Rattle.cms_tree.proofs.climb.lift.Goals as goal
 use Rattle.cms_tree.proofs.climb.lift.Goals.{After-deref}
@@ -132,3 +134,60 @@ returns-clause-lifts g c = λ leaves marks numbers node tier es levels fresh_is 
       stands_parent a.bsize a.psize fan leaves marks numbers a.fresh.now node tier es levels a.child.now a.level.now c.point-place.new.self c.div_ceil.result c.point-place.result s q is fresh_is count,
       λ less. stands_next a.bsize a.psize fan leaves marks numbers node tier es levels a.child.now a.level.now c.clear.new.self s is zeros c.clear.ensures.place less,
     )
+
+pub nonzero_div-fan : goal.nonzero_div-fan
+nonzero_div-fan g c = rw c.from.ensures (some_pointer c.args.psize c.requires.psize)
+
+pub point-place-requires-clause-psize : goal.point-place-requires-clause-psize
+point-place-requires-clause-psize g c = c.requires.psize
+
+pub point-place-requires-clause-some : goal.point-place-requires-clause-some
+point-place-requires-clause-some g c = rw (c.bytes.ensures.value, c.from.ensures) (some_fan c.args.bsize c.args.psize c.requires.size c.requires.psize)
+
+pub ends_group-requires-clause-wide : goal.ends_group-requires-clause-wide
+ends_group-requires-clause-wide g c = rw (c.bytes.ensures.value, c.from.ensures) (some_fan c.args.bsize c.args.psize c.requires.size c.requires.psize)
+
+pub nonzero_div-nth : goal.nonzero_div-nth
+nonzero_div-nth g c = rw (c.bytes.ensures.value, c.from.ensures) (some_fan c.args.bsize c.args.psize c.requires.size c.requires.psize)
+
+pub div_ceil-requires : goal.div_ceil-requires
+div_ceil-requires g c = rw (c.bytes.ensures.value, c.from.ensures) (some_fan c.args.bsize c.args.psize c.requires.size c.requires.psize)
+
+pub point-place-requires-clause-room : goal.point-place-requires-clause-room
+point-place-requires-clause-room g c =
+    rw (c.bytes.ensures.value, c.from.ensures) (pointers_fit c.args.bsize c.args.psize (length c.args.level.now.bytes.items) c.requires.psize c.requires.level)
+
+pub point-place-requires-clause-short : goal.point-place-requires-clause-short
+point-place-requires-clause-short g c = short_block c.args.bsize (length c.args.level.now.bytes.items) c.requires.size c.requires.level
+
+pub ends_group-requires-clause-within : goal.ends_group-requires-clause-within
+ends_group-requires-clause-within g c = c.requires.within
+
+pub returns-then-not-ends_group-clause-size : goal.returns-then-not-ends_group-clause-size
+returns-then-not-ends_group-clause-size g c = c.point-place.ensures.size ∙ c.requires.level
+
+pub returns-in_err-write_block-clause-size : goal.returns-in_err-write_block-clause-size
+returns-in_err-write_block-clause-size g c = c.point-place.ensures.size ∙ c.requires.level
+
+pub returns-then-not-ends_group-clause-counts : goal.returns-then-not-ends_group-clause-counts
+returns-then-not-ends_group-clause-counts g c = counts_none _
+
+pub write_block-requires-clause-writable : goal.write_block-requires-clause-writable
+write_block-requires-clause-writable g c = c.requires.writable
+
+pub returns-in_err-write_block-clause-parent : goal.returns-in_err-write_block-clause-parent
+returns-in_err-write_block-clause-parent g c = ok_at_err _ c.from_residual.result _ c.from_residual.ensures.1
+
+pub returns-in_err-write_block-clause-counts : goal.returns-in_err-write_block-clause-counts
+returns-in_err-write_block-clause-counts g c =
+    let e = c.in_err-write_block.ensures in
+    record { cause = record { later = e.cause.later; failed = holds_at_err c.from_residual.result e.cause.failed }; edges = e.edges }
+
+pub returns-clause-size : goal.returns-clause-size
+returns-clause-size g c =
+    ap (λ (l : List ℕ). length l) c.clear.ensures.bytes ∙ (length-replicate (length c.point-place.new.self.bytes.items) 0 ∙ (c.point-place.ensures.size ∙ c.requires.level))
+
+pub returns-clause-counts : goal.returns-clause-counts
+returns-clause-counts g c =
+    let e = c.in_ok-write_block.ensures in
+    record { cause = record { later = e.cause.later; failed = tt }; edges = e.edges }

@@ -12,6 +12,8 @@ use Rattle.cms_tree.specs.Paths.{levels_of}
 use Rattle.cms_tree.specs.Resumes.{partly_above, ReadsFront, ResumesOne}
 use Rattle.cms_tree.proofs.BuiltTrees.{fan_wide}
 use Rattle.cms_tree.proofs.Resumes.{length-levels_of, no_levels, over_first, partly_within, resumes_none, resumes_root, resumes_part, resumes_read}
+use Rattle.cms_tree.proofs.ClimbBlocks.{pointer_fits, some_fan, some_pointer}
+use Rattle.cms_tree.proofs.Exits.{counts_none}
 use Rattle.cms_tree.proofs.climb.resume_level.Goals as goal
 
 pub returns-then-not-partly_above-clause-resumes : goal.returns-then-not-partly_above-clause-resumes
@@ -97,3 +99,41 @@ returns-clause-resumes g c =
     let read'' = subst (λ (l : List ℕ). ReadsFront told a.unit (get_or b.pointers.now (b.kept / (a.bsize / a.psize)) 0) a.psize (b.kept % (a.bsize / a.psize)) l place) (sym items) read' in
     resumes_read told a.unit a.bsize a.psize size leaves b a.own new place (omega arith) (omega arith) is (let some = c.if-before-eq0.false in omega arith) one count_is c.requires.kept c.requires.partly long read'' refl)
     c.read_front.ensures.reads
+
+pub nonzero_div-fan : goal.nonzero_div-fan
+nonzero_div-fan g c = rw c.from.ensures (some_pointer c.args.psize c.requires.psize)
+
+pub partly_above-requires : goal.partly_above-requires
+partly_above-requires g c = rw (c.bytes.ensures.value, c.from.ensures) (some_fan c.args.bsize c.args.psize c.requires.size c.requires.psize)
+
+pub nonzero_div-block : goal.nonzero_div-block
+nonzero_div-block g c = rw (c.bytes.ensures.value, c.from.ensures) (some_fan c.args.bsize c.args.psize c.requires.size c.requires.psize)
+
+pub nonzero_rem-at : goal.nonzero_rem-at
+nonzero_rem-at g c = rw (c.bytes.ensures.value, c.from.ensures) (some_fan c.args.bsize c.args.psize c.requires.size c.requires.psize)
+
+pub returns-then-not-partly_above-clause-told : goal.returns-then-not-partly_above-clause-told
+returns-then-not-partly_above-clause-told g c = refl
+
+pub returns-then-before-eq0-clause-told : goal.returns-then-before-eq0-clause-told
+returns-then-before-eq0-clause-told g c = refl
+
+pub returns-then-not-partly_above-clause-counts : goal.returns-then-not-partly_above-clause-counts
+returns-then-not-partly_above-clause-counts g c = counts_none _
+
+pub returns-then-before-eq0-clause-counts : goal.returns-then-before-eq0-clause-counts
+returns-then-before-eq0-clause-counts g c = counts_none _
+
+pub point_root-requires-clause-psize : goal.point_root-requires-clause-psize
+point_root-requires-clause-psize g c = c.requires.psize
+
+pub read_front-requires-clause-room : goal.read_front-requires-clause-room
+read_front-requires-clause-room g c =
+    rw (c.bytes.ensures.value, c.from.ensures) (pointer_fits c.args.bsize c.args.psize (length c.deref_mut.result.now) c.args.before.now.kept c.requires.size c.requires.psize
+    (ap (λ (l : List ℕ). length l) (c.deref_mut.ensures.value ∙ c.requires.clear.0) ∙ length-replicate c.args.bsize 0))
+
+pub returns-clause-told : goal.returns-clause-told
+returns-clause-told g c = c.read_front.ensures.told
+
+pub returns-clause-counts : goal.returns-clause-counts
+returns-clause-counts g c = c.read_front.ensures.counts

@@ -40,3 +40,12 @@ returns c =
     let l = c.loop-place in
     let blocks = a.group.now.blocks.now in
     all_filled (length a.into.now) a.psize a.marks.now a.count a.group.now.size a.group.now.first blocks l.place l.into (take_all l.place blocks (omega arith)) (omega arith) l.invariant
+
+pub put_cell-requires-clause-psize : goal.put_cell-requires-clause-psize
+put_cell-requires-clause-psize c = c.requires.psize
+
+pub mark_of-mark-requires-clause-size : goal.mark_of-mark-requires-clause-size
+mark_of-mark-requires-clause-size c = c.requires.size
+
+pub mark_of-mark-requires-clause-short : goal.mark_of-mark-requires-clause-short
+mark_of-mark-requires-clause-short c = c.requires.short

@@ -1,7 +1,7 @@
-use Rattle.std.proofs.Common.{◌≡◌, inl, inr, ℕ, ◌+◌, ◌-◌, ◌*◌, ◌^◌, ◌≤◌, min, List, [], ◌∷◌, ◌++◌, length, Result, Ok, Err, refl, sym, ◌∙◌, ap, subst, arith, Vec, Global, vec_len}
+use Rattle.std.proofs.Common.{◌≡◌, inl, inr, ℕ, ◌+◌, ◌-◌, ◌*◌, ◌^◌, ◌≤◌, min, List, [], ◌∷◌, ◌++◌, length, Result, Ok, Err, refl, sym, ◌∙◌, ap, subst, arith, Vec, Global, vec_len, ◌<◌, suc, mul-le-mul_right}
 use Rattle.std.specs.Prelude.{⊤}
 use Rattle.std.specs.Result.{OnOk}
-use Rattle.std.proofs.Math.Nat.{one-le-pow}
+use Rattle.std.proofs.Math.Nat.{one-le-pow, pow-zero}
 use Rattle.std.proofs.lemmas.Result.{err_from_is_err_and}
 use Rattle.cms_journal.specs.Journal.{contents_of}
 use Rattle.cms_text.specs.Bytes.{word}
@@ -11,10 +11,12 @@ use Rattle.cms_model.proofs.TreeFrame.{allowed_free as allowed_lies}
 use Rattle.cms_tree.specs.declared.read.Tier.{Tier}
 use Rattle.cms_tree.specs.declared.types.TreeFault.{TreeFault}
 use Rattle.cms_tree.specs.Parts.{form_of, met_of, onto, blocks_in, Grows, IsFaultOf}
-use Rattle.cms_tree.proofs.Sums.{power_below, room_first, room_left, no_room}
+use Rattle.cms_tree.proofs.Sums.{power_below, room_first, room_left, no_room, left_none}
 use Rattle.cms_tree.proofs.Blocks.{has_block}
 use Rattle.cms_tree.proofs.Rest.{leaf_joins, node_refusal, node_plain, starts, goes_on, refusal_passes, node_joins}
 use Rattle.cms_tree.proofs.Within.{taken_within, part_within, node_grows, grows_both, grows_none}
+use Rattle.cms_tree.proofs.Exits.{no_device, ok_at_err, reads_at_err, reads_behind, reads_none, reads_so_far, same_at_err}
+use Rattle.cms_tree.specs.declared.types.TreeFault.TheVariants.{Device}
 use Rattle.cms_tree.proofs.read.+walk_from.Goals as goal
 
 -- where there is no level
@@ -195,3 +197,96 @@ returns-clause-grows g t c =
     node_grows a.layout.now.fan a.layout.now.last a.part.now.root a.part.now.count a.levels c.in-Some.below.now l.below c.in-Some.top.now c.take_node.new.tier a.into.now c.take_node.new.into
     a.tiers.now (l.below ++ c.take_node.new.tier ∷ []) (omega arith) c.requires.some c.requires.room c.requires.tiers c.in_ok-take_node.ensures.ok c.in-Some.ensures.cases.0 refl
     (subst (λ (n : ℕ). Grows a.layout.now.fan a.layout.now.last n c.in-Some.below.now l.below) all l.invariant.grows)
+
+-- there is one data block where there is no level
+one_leaf : (count fan levels : ℕ) → levels ≡ 0 → count ≤ fan ^ levels → 1 ≤ count → 1 ≡ count
+one_leaf count fan levels none room some = let room' : count ≤ fan ^ 0 = subst (λ (n : ℕ). count ≤ fan ^ n) none room in let unit = pow-zero fan in omega (arith, room', unit, some)
+
+-- a pointer lies within its block
+pointer_in : (place fan stride bsize n : ℕ) → place < fan → 4 ≤ stride → fan * stride ≤ bsize → n ≡ bsize → place * stride + 4 ≤ n
+pointer_in place fan stride bsize n less four fits long = let wide : suc place * stride ≤ fan * stride = mul-le-mul_right stride less in omega arith
+
+pub returns-in_default-clause-count : goal.returns-in_default-clause-count
+returns-in_default-clause-count g t c =
+    let a = c.args in
+    let none : a.levels ≡ 0 = sym c.requires.tiers ∙ c.in_default.ensures.cases in
+    subst (λ (n : ℕ). OnOk c.take_leaf.result (vec_len c.take_leaf.new.into.leaves ≡ vec_len a.into.now.leaves + n)) (one_leaf a.part.now.count a.layout.now.fan a.levels none c.requires.room c.requires.some) c.take_leaf.ensures.count
+
+pub returns-in_default-clause-within : goal.returns-in_default-clause-within
+returns-in_default-clause-within g t c = c.take_leaf.ensures.within
+
+pub returns-in_default-clause-reads : goal.returns-in_default-clause-reads
+returns-in_default-clause-reads g t c = reads_none _ c.take_leaf.result (no_device c.take_leaf.result c.take_leaf.ensures.device)
+
+pub returns-in_err-take_node-clause-grows : goal.returns-in_err-take_node-clause-grows
+returns-in_err-take_node-clause-grows g t c = ok_at_err _ c.from_residual.result _ c.from_residual.ensures.1
+
+pub returns-in_err-take_node-clause-count : goal.returns-in_err-take_node-clause-count
+returns-in_err-take_node-clause-count g t c = ok_at_err _ c.from_residual.result _ c.from_residual.ensures.1
+
+pub returns-in_err-take_node-clause-within : goal.returns-in_err-take_node-clause-within
+returns-in_err-take_node-clause-within g t c = ok_at_err _ c.from_residual.result _ c.from_residual.ensures.1
+
+pub returns-in_err-take_node-clause-reads : goal.returns-in_err-take_node-clause-reads
+returns-in_err-take_node-clause-reads g t c =
+    reads_none _ c.from_residual.result (same_at_err c.from_residual.result (λ e. e ≡ Device → ⊥) c.in_err-take_node.field-0.0 c.from_residual.ensures.1 (λ is. c.in_err-take_node.ensures.device (ap Err is)))
+
+pub returns-in_err-block-clause-grows : goal.returns-in_err-block-clause-grows
+returns-in_err-block-clause-grows g t c = ok_at_err _ c.from_residual-in_err-block.result _ c.from_residual-in_err-block.ensures.1
+
+pub returns-in_err-block-clause-count : goal.returns-in_err-block-clause-count
+returns-in_err-block-clause-count g t c = ok_at_err _ c.from_residual-in_err-block.result _ c.from_residual-in_err-block.ensures.1
+
+pub returns-in_err-block-clause-within : goal.returns-in_err-block-clause-within
+returns-in_err-block-clause-within g t c = ok_at_err _ c.from_residual-in_err-block.result _ c.from_residual-in_err-block.ensures.1
+
+pub returns-in_err-block-clause-reads : goal.returns-in_err-block-clause-reads
+returns-in_err-block-clause-reads g t c = reads_at_err c.from_residual-in_err-block.result _ c.from_residual-in_err-block.ensures.1 c.in_err-block.ensures.reads
+
+pub size_below-size-requires-clause-small : goal.size_below-size-requires-clause-small
+size_below-size-requires-clause-small g t c = c.requires.small
+
+pub returns-then-left-eq0-clause-count : goal.returns-then-left-eq0-clause-count
+returns-then-left-eq0-clause-count g t c = left_none _ c.loop-place.left _ c.loop-place.invariant.count c.if-left-eq0.true
+
+pub returns-then-left-eq0-clause-within : goal.returns-then-left-eq0-clause-within
+returns-then-left-eq0-clause-within g t c = c.loop-place.invariant.within
+
+pub returns-then-left-eq0-clause-reads : goal.returns-then-left-eq0-clause-reads
+returns-then-left-eq0-clause-reads g t c =
+    let l = c.loop-place.invariant in
+    reads_so_far _ _ _ l.told l.later l.edges
+
+pub word_at-requires : goal.word_at-requires
+word_at-requires g t c =
+    pointer_in c.loop-place.place c.args.layout.now.fan c.args.layout.now.stride c.args.layout.now.bsize (length c.deref.result.now) c.loop-place-test.true c.requires.stride c.requires.fits
+    (ap (λ (l : List ℕ). length l) c.deref.ensures.value ∙ (sym c.in_ok-block.block.ok.0 ∙ c.in_ok-block.ensures.len))
+
+pub returns-in_err-walk_from-clause-grows : goal.returns-in_err-walk_from-clause-grows
+returns-in_err-walk_from-clause-grows g t c = ok_at_err _ c.from_residual-in_err-walk_from.result _ c.from_residual-in_err-walk_from.ensures.1
+
+pub returns-in_err-walk_from-clause-count : goal.returns-in_err-walk_from-clause-count
+returns-in_err-walk_from-clause-count g t c = ok_at_err _ c.from_residual-in_err-walk_from.result _ c.from_residual-in_err-walk_from.ensures.1
+
+pub returns-in_err-walk_from-clause-within : goal.returns-in_err-walk_from-clause-within
+returns-in_err-walk_from-clause-within g t c = ok_at_err _ c.from_residual-in_err-walk_from.result _ c.from_residual-in_err-walk_from.ensures.1
+
+pub returns-in_err-walk_from-clause-reads : goal.returns-in_err-walk_from-clause-reads
+returns-in_err-walk_from-clause-reads g t c =
+    let l = c.loop-place.invariant in
+    reads_at_err c.from_residual-in_err-walk_from.result _ c.from_residual-in_err-walk_from.ensures.1 (reads_behind _ l.told l.later l.edges c.in_err-walk_from.ensures.reads)
+
+pub returns-clause-count : goal.returns-clause-count
+returns-clause-count g t c =
+    let a = c.args in
+    let l = c.loop-place in
+    let none = no_room l.left a.layout.now.fan l.place c.size_below-size.result l.invariant.room c.loop-place-test.false in
+    left_none _ l.left _ l.invariant.count none
+
+pub returns-clause-within : goal.returns-clause-within
+returns-clause-within g t c = c.loop-place.invariant.within
+
+pub returns-clause-reads : goal.returns-clause-reads
+returns-clause-reads g t c =
+    let l = c.loop-place.invariant in
+    reads_so_far _ _ _ l.told l.later l.edges

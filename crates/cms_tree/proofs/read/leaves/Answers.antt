@@ -1,4 +1,5 @@
 use Rattle.std.proofs.Common.{refl}
+use Rattle.cms_tree.proofs.Exits.{holds_at_err, memory_only, ok_at_err, plain_at_err, reads_at_err}
 use Rattle.cms_tree.proofs.read.leaves.Goals as goal
 
 pub returns-clause-pointers_within : goal.returns-clause-pointers_within
@@ -13,3 +14,84 @@ returns-clause-pointers_within g c =
 pub returns-clause-leaves_within : goal.returns-clause-leaves_within
 returns-clause-leaves_within g c =
     record { more = c.in_ok-walked.walked.leaves.items; items = rw (c.in_ok-extend_from_slice.ensures.items, c.deref.ensures.value) refl; within = c.in_ok-walked.ensures.within.leaves }
+
+pub walk-requires-clause-some : goal.walk-requires-clause-some
+walk-requires-clause-some g c = c.requires.some
+
+pub walk-requires-clause-psize : goal.walk-requires-clause-psize
+walk-requires-clause-psize g c = c.requires.psize
+
+pub walk-requires-clause-blocks : goal.walk-requires-clause-blocks
+walk-requires-clause-blocks g c = c.requires.blocks
+
+pub returns-in_err-walked-clause-err : goal.returns-in_err-walked-clause-err
+returns-in_err-walked-clause-err g c = holds_at_err c.from_residual.result (refl, refl)
+
+pub returns-in_err-walked-clause-count : goal.returns-in_err-walked-clause-count
+returns-in_err-walked-clause-count g c = ok_at_err _ c.from_residual.result _ c.from_residual.ensures.1
+
+pub returns-in_err-walked-clause-pointers : goal.returns-in_err-walked-clause-pointers
+returns-in_err-walked-clause-pointers g c = ok_at_err _ c.from_residual.result _ c.from_residual.ensures.1
+
+pub returns-in_err-walked-clause-pointers_within : goal.returns-in_err-walked-clause-pointers_within
+returns-in_err-walked-clause-pointers_within g c = ok_at_err _ c.from_residual.result _ c.from_residual.ensures.1
+
+pub returns-in_err-walked-clause-leaves_within : goal.returns-in_err-walked-clause-leaves_within
+returns-in_err-walked-clause-leaves_within g c = ok_at_err _ c.from_residual.result _ c.from_residual.ensures.1
+
+pub returns-in_err-walked-clause-reads : goal.returns-in_err-walked-clause-reads
+returns-in_err-walked-clause-reads g c = reads_at_err c.from_residual.result _ c.from_residual.ensures.1 c.in_err-walked.ensures.reads
+
+pub returns-in_err-reserve-clause-count : goal.returns-in_err-reserve-clause-count
+returns-in_err-reserve-clause-count g c = ok_at_err _ c.from_residual-in_err-reserve.result _ c.from_residual-in_err-reserve.ensures.1
+
+pub returns-in_err-reserve-clause-pointers : goal.returns-in_err-reserve-clause-pointers
+returns-in_err-reserve-clause-pointers g c = ok_at_err _ c.from_residual-in_err-reserve.result _ c.from_residual-in_err-reserve.ensures.1
+
+pub returns-in_err-reserve-clause-pointers_within : goal.returns-in_err-reserve-clause-pointers_within
+returns-in_err-reserve-clause-pointers_within g c = ok_at_err _ c.from_residual-in_err-reserve.result _ c.from_residual-in_err-reserve.ensures.1
+
+pub returns-in_err-reserve-clause-leaves_within : goal.returns-in_err-reserve-clause-leaves_within
+returns-in_err-reserve-clause-leaves_within g c = ok_at_err _ c.from_residual-in_err-reserve.result _ c.from_residual-in_err-reserve.ensures.1
+
+pub returns-in_err-reserve-clause-err : goal.returns-in_err-reserve-clause-err
+returns-in_err-reserve-clause-err g c = holds_at_err c.from_residual-in_err-reserve.result (c.in_err-reserve.ensures.items, refl)
+
+pub returns-in_err-reserve-clause-reads : goal.returns-in_err-reserve-clause-reads
+returns-in_err-reserve-clause-reads g c =
+    plain_at_err _ c.from_residual-in_err-reserve.result c.from_residual-in_err-reserve.ensures.1 (λ e is device. memory_only e is device) c.in_ok-walked.ensures.reads
+
+pub returns-in_err-extend_from_slice-clause-count : goal.returns-in_err-extend_from_slice-clause-count
+returns-in_err-extend_from_slice-clause-count g c = ok_at_err _ c.from_residual-in_err-extend_from_slice.result _ c.from_residual-in_err-extend_from_slice.ensures.1
+
+pub returns-in_err-extend_from_slice-clause-pointers : goal.returns-in_err-extend_from_slice-clause-pointers
+returns-in_err-extend_from_slice-clause-pointers g c = ok_at_err _ c.from_residual-in_err-extend_from_slice.result _ c.from_residual-in_err-extend_from_slice.ensures.1
+
+pub returns-in_err-extend_from_slice-clause-pointers_within : goal.returns-in_err-extend_from_slice-clause-pointers_within
+returns-in_err-extend_from_slice-clause-pointers_within g c = ok_at_err _ c.from_residual-in_err-extend_from_slice.result _ c.from_residual-in_err-extend_from_slice.ensures.1
+
+pub returns-in_err-extend_from_slice-clause-leaves_within : goal.returns-in_err-extend_from_slice-clause-leaves_within
+returns-in_err-extend_from_slice-clause-leaves_within g c = ok_at_err _ c.from_residual-in_err-extend_from_slice.result _ c.from_residual-in_err-extend_from_slice.ensures.1
+
+pub returns-in_err-extend_from_slice-clause-err : goal.returns-in_err-extend_from_slice-clause-err
+returns-in_err-extend_from_slice-clause-err g c = holds_at_err c.from_residual-in_err-extend_from_slice.result (c.in_ok-reserve.ensures.items, c.in_err-extend_from_slice.ensures.items)
+
+pub returns-in_err-extend_from_slice-clause-reads : goal.returns-in_err-extend_from_slice-clause-reads
+returns-in_err-extend_from_slice-clause-reads g c =
+    plain_at_err _ c.from_residual-in_err-extend_from_slice.result c.from_residual-in_err-extend_from_slice.ensures.1 (λ e is device. memory_only e is device) c.in_ok-walked.ensures.reads
+
+pub returns-in_err-extend_from_slice-2-clause-count : goal.returns-in_err-extend_from_slice-2-clause-count
+returns-in_err-extend_from_slice-2-clause-count g c = ok_at_err _ c.from_residual-in_err-extend_from_slice-2.result _ c.from_residual-in_err-extend_from_slice-2.ensures.1
+
+pub returns-in_err-extend_from_slice-2-clause-pointers : goal.returns-in_err-extend_from_slice-2-clause-pointers
+returns-in_err-extend_from_slice-2-clause-pointers g c = ok_at_err _ c.from_residual-in_err-extend_from_slice-2.result _ c.from_residual-in_err-extend_from_slice-2.ensures.1
+
+pub returns-in_err-extend_from_slice-2-clause-pointers_within : goal.returns-in_err-extend_from_slice-2-clause-pointers_within
+returns-in_err-extend_from_slice-2-clause-pointers_within g c = ok_at_err _ c.from_residual-in_err-extend_from_slice-2.result _ c.from_residual-in_err-extend_from_slice-2.ensures.1
+
+pub returns-in_err-extend_from_slice-2-clause-leaves_within : goal.returns-in_err-extend_from_slice-2-clause-leaves_within
+returns-in_err-extend_from_slice-2-clause-leaves_within g c = ok_at_err _ c.from_residual-in_err-extend_from_slice-2.result _ c.from_residual-in_err-extend_from_slice-2.ensures.1
+
+pub returns-in_err-extend_from_slice-2-clause-reads : goal.returns-in_err-extend_from_slice-2-clause-reads
+returns-in_err-extend_from_slice-2-clause-reads g c =
+    plain_at_err _ c.from_residual-in_err-extend_from_slice-2.result c.from_residual-in_err-extend_from_slice-2.ensures.1 (λ e is device. memory_only e is device) c.in_ok-walked.ensures.reads

@@ -6,11 +6,10 @@ use Rattle.std.proofs.lemmas.List.{length-replicate, with_items_is}
 use Rattle.cms_journal.specs.Journal.{contents_of}
 use Rattle.cms_model.specs.Lists.{In}
 use Rattle.cms_model.specs.Sizes.{levels, pointer_count}
-use Rattle.cms_model.specs.Trees.{none_met, image_of, tree}
+use Rattle.cms_model.specs.Trees.{none_met, image_of, tree, Form}
 use Rattle.cms_model.proofs.Shapes.{levels_needs}
 use Rattle.cms_tree.proofs.Sums.{levels_room}
 use Rattle.cms_tree.proofs.Within.{none_within}
-use Rattle.cms_model.specs.Trees.{Form}
 use Rattle.cms_tree.specs.declared.read.MetBlocks.{MetBlocks}
 use Rattle.cms_tree.specs.declared.read.Tier.{Tier}
 use Rattle.cms_tree.specs.Levels.{over_count}
@@ -18,6 +17,8 @@ use Rattle.cms_tree.specs.Parts.{form_of, met_of, blocks_in}
 use Rattle.cms_tree.specs.Walks.{AreWithin, form_at, levels_at, nodes, nodes_at, tree_at}
 use Rattle.cms_tree.proofs.ClimbSteps.{over_all}
 use Rattle.cms_tree.proofs.Rest.{length-blocks_in, more_sum, walk_read}
+use Rattle.cms_tree.specs.declared.types.TreeFault.TheVariants.{Device}
+use Rattle.cms_tree.proofs.Exits.{err_at_err, memory_only, ok_at_err, plain_at_err, reads_at_err, reads_at_ok, reads_none}
 use Rattle.cms_tree.proofs.read.walk.Given as given
 use Rattle.cms_tree.proofs.read.walk.Goals as goal
 use Rattle.cms_tree.proofs.read.walk.Goals.{After-drop-tiers-2}
@@ -101,3 +102,50 @@ returns-clause-pointers g c =
     let wide = c.layout_of-layout.ensures.fan.0 in
     ap length (tiers_after g here) ∙ more_sum fan at.count k (blocks_in c.deref_mut.result.now) (blocks_in c.walk_from.new.tiers) (tiers_before g here) c.in_ok-walk_from.ensures.grows.more
     ∙ ap (λ (n : ℕ). over_count fan n at.count) c.shape-levels.ensures.levels ∙ over_all fan at.count (omega arith) ∙ ap (λ (n : ℕ). pointer_count n at.count) (form_is g here).0
+
+pub shape-levels-requires-clause-some : goal.shape-levels-requires-clause-some
+shape-levels-requires-clause-some g c = c.requires.some
+
+pub walk_from-requires-clause-some : goal.walk_from-requires-clause-some
+walk_from-requires-clause-some g c = c.requires.some
+
+pub returns-in_err-tiers-clause-count : goal.returns-in_err-tiers-clause-count
+returns-in_err-tiers-clause-count g c = ok_at_err _ c.from_residual.result _ c.from_residual.ensures.1
+
+pub returns-in_err-tiers-clause-pointers : goal.returns-in_err-tiers-clause-pointers
+returns-in_err-tiers-clause-pointers g c = ok_at_err _ c.from_residual.result _ c.from_residual.ensures.1
+
+pub returns-in_err-tiers-clause-within : goal.returns-in_err-tiers-clause-within
+returns-in_err-tiers-clause-within g c = ok_at_err _ c.from_residual.result _ c.from_residual.ensures.1
+
+pub returns-in_err-tiers-clause-reads : goal.returns-in_err-tiers-clause-reads
+returns-in_err-tiers-clause-reads g c =
+    reads_none _ c.from_residual.result (err_at_err _ c.from_residual.result (λ e. e ≡ Device → ⊥) c.from_residual.ensures.1 (λ e is device. memory_only e is device))
+
+pub returns-in_err-walk_from-clause-count : goal.returns-in_err-walk_from-clause-count
+returns-in_err-walk_from-clause-count g c = ok_at_err _ c.from_residual-in_err-walk_from.result _ c.from_residual-in_err-walk_from.ensures.1
+
+pub returns-in_err-walk_from-clause-pointers : goal.returns-in_err-walk_from-clause-pointers
+returns-in_err-walk_from-clause-pointers g c = ok_at_err _ c.from_residual-in_err-walk_from.result _ c.from_residual-in_err-walk_from.ensures.1
+
+pub returns-in_err-walk_from-clause-within : goal.returns-in_err-walk_from-clause-within
+returns-in_err-walk_from-clause-within g c = ok_at_err _ c.from_residual-in_err-walk_from.result _ c.from_residual-in_err-walk_from.ensures.1
+
+pub returns-in_err-walk_from-clause-reads : goal.returns-in_err-walk_from-clause-reads
+returns-in_err-walk_from-clause-reads g c = reads_at_err c.from_residual-in_err-walk_from.result _ c.from_residual-in_err-walk_from.ensures.1 c.in_err-walk_from.ensures.reads
+
+pub returns-in_err-joined-clause-count : goal.returns-in_err-joined-clause-count
+returns-in_err-joined-clause-count g c = ok_at_err _ c.from_residual-in_err-joined.result _ c.from_residual-in_err-joined.ensures.1
+
+pub returns-in_err-joined-clause-pointers : goal.returns-in_err-joined-clause-pointers
+returns-in_err-joined-clause-pointers g c = ok_at_err _ c.from_residual-in_err-joined.result _ c.from_residual-in_err-joined.ensures.1
+
+pub returns-in_err-joined-clause-within : goal.returns-in_err-joined-clause-within
+returns-in_err-joined-clause-within g c = ok_at_err _ c.from_residual-in_err-joined.result _ c.from_residual-in_err-joined.ensures.1
+
+pub returns-in_err-joined-clause-reads : goal.returns-in_err-joined-clause-reads
+returns-in_err-joined-clause-reads g c =
+    plain_at_err _ c.from_residual-in_err-joined.result c.from_residual-in_err-joined.ensures.1 (λ e is device. memory_only e is device) c.in_ok-walk_from.ensures.reads
+
+pub returns-clause-reads : goal.returns-clause-reads
+returns-clause-reads g c = reads_at_ok _ c.in_ok-walk_from.ensures.reads

@@ -44,3 +44,18 @@ returns-clause-appended c =
     let l = c.loop-nth in
     let none : drop l.nth c.args.tier.now ≡ [] = drop_of_length-le c.args.tier.now (omega arith) in
     sym (append-nil l.into.items) ∙ (rw none at l.invariant.items)
+
+pub loop-nth-init : goal.loop-nth-init
+loop-nth-init c = record { items = refl; same = λ from to low. refl; ascends = c.requires.ascends; len = omega arith; capacity = omega arith }
+
+pub rest_from-rest-requires : goal.rest_from-rest-requires
+rest_from-rest-requires c = c.loop-nth.invariant.ascends
+
+pub is_kept-requires-clause-ascends : goal.is_kept-requires-clause-ascends
+is_kept-requires-clause-ascends c = c.rest_from-rest.ensures.ascends
+
+pub is_kept-requires-clause-first : goal.is_kept-requires-clause-first
+is_kept-requires-clause-first c = c.rest_from-rest.ensures.first
+
+pub returns-clause-capacity : goal.returns-clause-capacity
+returns-clause-capacity c = c.loop-nth.invariant.capacity

@@ -1,9 +1,10 @@
-use Rattle.std.proofs.Common.{◌≡◌, ◌+◌, ◌*◌, min, ℕ, append-nil, refl, sym, ◌∙◌, ap, arith}
+use Rattle.std.proofs.Common.{◌≡◌, ◌+◌, ◌*◌, min, ℕ, append-nil, refl, sym, ◌∙◌, ap, arith, ◌++◌, ◌≤◌, length, subst, slice_index, vec_len}
 use Rattle.cms_fields.specs.Numbers.{up}
 use Rattle.cms_model.specs.SharedTrees.{is_kept, fresh_on}
 use Rattle.cms_model.proofs.Exchanges.{fresh_few}
 use Rattle.cms_tree.specs.Paths.{numbered}
 use Rattle.cms_tree.proofs.Paths.{clash, fresh_next, fresh_room, kept_by_rest, kept_inside, numbered_next}
+use Rattle.cms_tree.proofs.Sums.{reached}
 use Rattle.cms_tree.proofs.shared_level.number_level.Goals as goal
 use Rattle.cms_tree.proofs.shared_level.number_level.Goals.{then-not-kept, else-not-kept}
 
@@ -69,3 +70,40 @@ loop-nth-preserved c =
       len = omega arith;
       capacity = omega (arith, c.push.ensures.capacity);
     }
+
+pub blocks-nth-end-requires : goal.blocks-nth-end-requires
+blocks-nth-end-requires c = c.requires.some
+
+pub rest_from-rest-requires : goal.rest_from-rest-requires
+rest_from-rest-requires c = c.loop-nth.invariant.ascends
+
+pub is_kept-kept-requires-clause-ascends : goal.is_kept-kept-requires-clause-ascends
+is_kept-kept-requires-clause-ascends c = c.rest_from-rest.ensures.ascends
+
+pub is_kept-kept-requires-clause-first : goal.is_kept-kept-requires-clause-first
+is_kept-kept-requires-clause-first c =
+    subst (λ (n : ℕ). 1 ≤ length c.rest_from-rest.result.now → n * c.args.level.now.size ≤ slice_index c.rest_from-rest.result.now 0) (c.from.ensures ∙ sym c.from-in-loop-nth.ensures) c.rest_from-rest.ensures.first
+
+pub returns-clause-appended : goal.returns-clause-appended
+returns-clause-appended c =
+    let l = c.loop-nth in
+    let t = c.args.level.now in
+    let done = reached l.nth c.blocks-nth-end.result (up t.count t.size) c.loop-nth-test.false l.auto.nth-end c.blocks-nth-end.ensures in
+    subst (λ (n : ℕ). l.into.items ≡ c.args.into.now.items ++ numbered t.both t.size t.before t.count c.args.written.now c.args.olds.now c.args.fresh.now n) done l.invariant.items
+
+pub returns-clause-taken : goal.returns-clause-taken
+returns-clause-taken c =
+    let l = c.loop-nth in
+    let t = c.args.level.now in
+    let done = reached l.nth c.blocks-nth-end.result (up t.count t.size) c.loop-nth-test.false l.auto.nth-end c.blocks-nth-end.ensures in
+    subst (λ (n : ℕ). l.taken ≡ fresh_on t.both t.size t.before t.count c.args.written.now n) done l.invariant.taken
+
+pub returns-clause-len : goal.returns-clause-len
+returns-clause-len c =
+    let l = c.loop-nth in
+    let t = c.args.level.now in
+    let done = reached l.nth c.blocks-nth-end.result (up t.count t.size) c.loop-nth-test.false l.auto.nth-end c.blocks-nth-end.ensures in
+    subst (λ (n : ℕ). vec_len l.into ≡ vec_len c.args.into.now + n) done l.invariant.len
+
+pub returns-clause-capacity : goal.returns-clause-capacity
+returns-clause-capacity c = c.loop-nth.invariant.capacity

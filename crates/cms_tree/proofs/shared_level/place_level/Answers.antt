@@ -1,7 +1,9 @@
-use Rattle.std.proofs.Common.{◌≡◌, ◌+◌, ◌*◌, min, ℕ, append-nil, refl, sym, ◌∙◌, ap, arith}
+use Rattle.std.proofs.Common.{◌≡◌, ◌+◌, ◌*◌, min, ℕ, append-nil, refl, sym, ◌∙◌, ap, arith, ◌≤◌, ◌++◌, length, subst, slice_index}
 use Rattle.cms_model.specs.SharedTrees.{is_kept}
 use Rattle.cms_tree.specs.Paths.{places_on}
 use Rattle.cms_tree.proofs.Paths.{clash, kept_by_rest, places_next}
+use Rattle.cms_fields.specs.Numbers.{up}
+use Rattle.cms_tree.proofs.Sums.{reached}
 use Rattle.cms_tree.proofs.shared_level.place_level.Goals as goal
 use Rattle.cms_tree.proofs.shared_level.place_level.Goals.{then-not-is_kept, else-not-is_kept}
 
@@ -48,3 +50,26 @@ loop-nth-preserved c =
             capacity = rw w.into-is (omega arith);
           }
     ]
+
+pub blocks-nth-end-requires : goal.blocks-nth-end-requires
+blocks-nth-end-requires c = c.requires.some
+
+pub rest_from-rest-requires : goal.rest_from-rest-requires
+rest_from-rest-requires c = c.loop-nth.invariant.ascends
+
+pub is_kept-requires-clause-ascends : goal.is_kept-requires-clause-ascends
+is_kept-requires-clause-ascends c = c.rest_from-rest.ensures.ascends
+
+pub is_kept-requires-clause-first : goal.is_kept-requires-clause-first
+is_kept-requires-clause-first c =
+    subst (λ (n : ℕ). 1 ≤ length c.rest_from-rest.result.now → n * c.args.level.now.size ≤ slice_index c.rest_from-rest.result.now 0) (c.from.ensures ∙ sym c.from-in-loop-nth.ensures) c.rest_from-rest.ensures.first
+
+pub returns-clause-appended : goal.returns-clause-appended
+returns-clause-appended c =
+    let l = c.loop-nth in
+    let t = c.args.level.now in
+    let done = reached l.nth c.blocks-nth-end.result (up t.count t.size) c.loop-nth-test.false l.auto.nth-end c.blocks-nth-end.ensures in
+    subst (λ (n : ℕ). l.into.items ≡ c.args.into.now.items ++ places_on t.both t.size t.before t.count c.args.written.now c.args.first n) done l.invariant.items
+
+pub returns-clause-capacity : goal.returns-clause-capacity
+returns-clause-capacity c = c.loop-nth.invariant.capacity

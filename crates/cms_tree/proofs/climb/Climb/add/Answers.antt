@@ -1,4 +1,4 @@
-use Rattle.std.proofs.Common.{◌≡◌, ℕ, ◌+◌, ◌/◌, ◌≤◌, length, List, [], refl, sym, ◌∙◌, ap, subst, arith}
+use Rattle.std.proofs.Common.{◌≡◌, ℕ, ◌+◌, ◌/◌, ◌≤◌, length, List, [], refl, sym, ◌∙◌, ap, subst, arith, ◌<◌, All}
 use Rattle.std.specs.Vec.{with_items}
 use Rattle.std.proofs.lemmas.List.{with_items_is}
 use Rattle.cms_model.specs.Sizes.{levels, pointer_count}
@@ -7,7 +7,7 @@ use Rattle.cms_tree.specs.declared.climb.Child.{Child}
 use Rattle.cms_tree.specs.Levels.{over_count}
 use Rattle.cms_tree.specs.Builds.{node_at}
 use Rattle.cms_tree.specs.Tiers.{lowest, node_on, IsTier, Stand, Rises}
-use Rattle.cms_tree.specs.Climbs.{Climb, Adds, AddsOn, AddsOwn, numbers_behind}
+use Rattle.cms_tree.specs.Climbs.{Climb, Adds, AddsOn, AddsOwn, numbers_behind, HasEach, HasSize, IsClimbing}
 use Rattle.cms_tree.proofs.ClimbBlocks.{some_fan}
 use Rattle.cms_tree.proofs.ClimbSteps.{over_all, tier_lowest, tier_lowest_on, leaf_child, leaf_added, leaf_added_on}
 use Rattle.cms_tree.proofs.climb.Climb.add.Goals as goal
@@ -82,3 +82,58 @@ returns-clause-own g c =
     rw (← c.self.view_is) (λ base low.
     subst (λ (n : ℕ). AddsOwn (g.W.World.told c.args.world.now) (g.W.World.told c.rise.new.world) c.args.unit s.bsize (numbers_behind fan n s.leaves base c.args.fresh.now)) long
     (c.rise.ensures.own base low))
+
+-- with other levels, and one leaf more
+abbrev more_on : Climb → List Level → Climb
+more_on v l = record { bsize = v.bsize; psize = v.psize; count = v.count; added = v.added + 1; levels = l }
+
+climbing_more : (v : Climb) (l l' : List Level) → IsClimbing v → v.added < v.count → l' ≡ l → length l ≡ length v.levels → All (HasSize v.bsize) l
+    → IsClimbing (more_on v l')
+climbing_more v l l' i fewer same long sizes = record {
+  size = i.size;
+  pointer = i.pointer;
+  some = i.some;
+  few = i.few;
+  added = omega (arith, fewer);
+  held = record { levels = ap (λ (x : List Level). length x) same ∙ (long ∙ i.held.levels); blocks = subst (All (HasSize v.bsize)) (sym same) sizes };
+}
+
+pub rise-requires-clause-size : goal.rise-requires-clause-size
+rise-requires-clause-size g c = c.self.invariant.size
+
+pub rise-requires-clause-psize : goal.rise-requires-clause-psize
+rise-requires-clause-psize g c = c.self.invariant.pointer
+
+pub rise-requires-clause-levels : goal.rise-requires-clause-levels
+rise-requires-clause-levels g c = subst (All (HasSize c.self.inside.bsize)) (sym c.deref_mut.ensures.value) c.self.invariant.held.blocks
+
+pub rise-requires-clause-within : goal.rise-requires-clause-within
+rise-requires-clause-within g c = subst (λ (v : Climb). v.added < v.count) (sym c.self.view_is) c.requires.fewer
+
+pub rise-requires-clause-blocks : goal.rise-requires-clause-blocks
+rise-requires-clause-blocks g c = λ j told. subst (λ (v : Climb). HasEach j.units c.args.unit v.bsize c.args.fresh.now) (sym c.self.view_is) (c.requires.blocks j told)
+
+pub rise-requires-clause-writable : goal.rise-requires-clause-writable
+rise-requires-clause-writable g c = c.requires.writable
+
+pub invariant_of-self : goal.invariant_of-self
+invariant_of-self g c =
+    let s = c.self.inside in
+    let v : Climb = record { bsize = s.bsize; psize = s.psize; count = s.leaves; added = s.added; levels = s.levels.items } in
+    let kept : (with_items s.levels c.rise.new.levels).items ≡ c.rise.new.levels = with_items_is s.levels c.rise.new.levels (c.rise.auto.levels ∙ c.deref_mut.ensures.len) in
+    let long : length c.rise.new.levels ≡ length s.levels.items = c.rise.auto.levels ∙ ap (λ (l : List Level). length l) c.deref_mut.ensures.value in
+    climbing_more v c.rise.new.levels _ c.self.invariant (subst (λ (x : Climb). x.added < x.count) (sym c.self.view_is) c.requires.fewer) kept long c.rise.ensures.sizes
+
+pub returns-clause-held : goal.returns-clause-held
+returns-clause-held g c =
+    let s = c.self.inside in
+    let v : Climb = record { bsize = s.bsize; psize = s.psize; count = s.leaves; added = s.added; levels = s.levels.items } in
+    let kept : (with_items s.levels c.rise.new.levels).items ≡ c.rise.new.levels = with_items_is s.levels c.rise.new.levels (c.rise.auto.levels ∙ c.deref_mut.ensures.len) in
+    let long : length c.rise.new.levels ≡ length s.levels.items = c.rise.auto.levels ∙ ap (λ (l : List Level). length l) c.deref_mut.ensures.value in
+    (climbing_more v c.rise.new.levels _ c.self.invariant (subst (λ (x : Climb). x.added < x.count) (sym c.self.view_is) c.requires.fewer) kept long c.rise.ensures.sizes).held
+
+pub returns-clause-added : goal.returns-clause-added
+returns-clause-added g c = ap (λ (v : Climb). more_on v (with_items c.self.inside.levels c.rise.new.levels).items) c.self.view_is
+
+pub returns-clause-counts : goal.returns-clause-counts
+returns-clause-counts g c = c.rise.ensures.counts

@@ -1,6 +1,7 @@
 use Rattle.std.proofs.Common.{◌≡◌, ℕ, ◌/◌, ◌^◌, ◌≤◌, List, min, length, false, All, refl, sym, ◌∙◌, ap, subst, arith}
 use Rattle.std.specs.Vec.{with_items}
 use Rattle.std.proofs.lemmas.List.{with_items_is}
+use Rattle.std.proofs.lemmas.Bool.{false≢true}
 use Rattle.cms_model.specs.Sizes.{levels}
 use Rattle.cms_model.proofs.SharedTiers.{up_one}
 use Rattle.cms_tree.specs.declared.climb.Level.{Level}
@@ -11,6 +12,9 @@ use Rattle.cms_tree.specs.Resumes.{IsClear, IsResumed}
 use Rattle.cms_tree.proofs.BuiltTrees.{fan_wide}
 use Rattle.cms_tree.proofs.ClimbSteps.{over_all}
 use Rattle.cms_tree.proofs.Resumes.{IsStart, kept_room, over_fewer, resumed}
+use Rattle.cms_tree.specs.declared.types.ResumeFault.TheVariants.{Device}
+use Rattle.cms_tree.proofs.ClimbBlocks.{some_pointer}
+use Rattle.cms_tree.proofs.Exits.{err_at_err, memory_resumes, ok_at_err, reads_none}
 use Rattle.cms_tree.proofs.climb.Climb.resume.Given as given
 use Rattle.cms_tree.proofs.climb.Climb.resume.Goals as goal
 use Rattle.cms_tree.proofs.climb.Climb.resume.Goals.{After-deref_mut, In-Ok}
@@ -104,3 +108,47 @@ returns-in-Ok-clause-resumed g c =
     let a = c.args in
     subst (λ (l : List Level). IsResumed (g.W.World.told a.world.now) a.unit a.bsize a.psize a.old_leaves a.old_pointers.now a.last a.mark.now a.kept a.leaves
     (record { bsize = a.bsize; psize = a.psize; count = a.leaves; added = a.kept; levels = l })) (sym (items g c)) (stands g c)
+
+pub nonzero_div-fan : goal.nonzero_div-fan
+nonzero_div-fan g c = rw c.from.ensures (some_pointer c.args.psize c.requires.psize)
+
+pub returns-in_err-levels-clause-resumed : goal.returns-in_err-levels-clause-resumed
+returns-in_err-levels-clause-resumed g c = ok_at_err _ c.from_residual.result _ c.from_residual.ensures.1
+
+pub returns-in_err-levels-clause-reads : goal.returns-in_err-levels-clause-reads
+returns-in_err-levels-clause-reads g c =
+    reads_none _ c.from_residual.result (err_at_err _ c.from_residual.result (λ e. e ≡ Device → ⊥) c.from_residual.ensures.1 (λ e is device. memory_resumes e is device))
+
+pub shape-requires-clause-some : goal.shape-requires-clause-some
+shape-requires-clause-some g c = c.requires.some
+
+pub shape-height-requires-clause-wide : goal.shape-height-requires-clause-wide
+shape-height-requires-clause-wide g c = rw (c.bytes.ensures.value, c.from.ensures) (fan_wide c.args.bsize c.args.psize c.bytes.ensures.size c.requires.psize)
+
+pub shape-requires-clause-wide : goal.shape-requires-clause-wide
+shape-requires-clause-wide g c = rw (c.bytes.ensures.value, c.from.ensures) (fan_wide c.args.bsize c.args.psize c.bytes.ensures.size c.requires.psize)
+
+pub resume_levels-requires-clause-size : goal.resume_levels-requires-clause-size
+resume_levels-requires-clause-size g c = c.bytes.ensures.size
+
+pub resume_levels-requires-clause-psize : goal.resume_levels-requires-clause-psize
+resume_levels-requires-clause-psize g c = c.requires.psize
+
+pub resume_levels-requires-clause-kept : goal.resume_levels-requires-clause-kept
+resume_levels-requires-clause-kept g c = c.requires.kept
+
+pub resume_levels-requires-clause-partly : goal.resume_levels-requires-clause-partly
+resume_levels-requires-clause-partly g c = λ is. absurd (false≢true is)
+
+pub resume_levels-requires-clause-blocks : goal.resume_levels-requires-clause-blocks
+resume_levels-requires-clause-blocks g c = c.requires.blocks
+
+pub returns-in-Ok-clause-reads : goal.returns-in-Ok-clause-reads
+returns-in-Ok-clause-reads g c =
+    let e = c.in-Ok.ensures in
+    record { told = e.told; faults = e.counts.cause.later; edges = e.counts.edges; cause = tt }
+
+pub returns-in-Err-clause-reads : goal.returns-in-Err-clause-reads
+returns-in-Err-clause-reads g c =
+    let e = c.in-Err.ensures in
+    record { told = e.told; faults = e.counts.cause.later; edges = e.counts.edges; cause = λ is. e.counts.cause.failed }
