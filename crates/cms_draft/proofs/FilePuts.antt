@@ -137,10 +137,10 @@ pub stored_long : (format : Format) (front : Front) (records : List (List ℕ)) 
 stored_long format front records text at is = ap (λ (n : ℕ). n + length (stored format (text ∷ []))) is
     ∙ sym (length-append (stored_on format front records) (stored format (text ∷ []))) ∙ ap (λ (l : List ℕ). length l) (sym (on_append format front records (text ∷ [])))
 
-long_fixed : (text : List ℕ) → length (stored F (text ∷ [])) ≡ length text
+pub long_fixed : (text : List ℕ) → length (stored F (text ∷ [])) ≡ length text
 long_fixed text = ap (λ (l : List ℕ). length l) (append-nil text)
 
-long_varying : (text : List ℕ) → length (stored V (text ∷ [])) ≡ 2 + length text
+pub long_varying : (text : List ℕ) → length (stored V (text ∷ [])) ≡ 2 + length text
 long_varying text = ap (λ (l : List ℕ). length l) (append-nil (with_length text)) ∙ length-with_length text
 
 regroup : (records more : List (List ℕ)) (text : List ℕ) → (records ++ text ∷ []) ++ more ≡ records ++ (text ∷ more)
@@ -272,7 +272,7 @@ stored_next d front records more text size p =
     subst (λ (f : Format). ComesNext (came d.writer) (with_length text) (stored_on f front (records ++ (text ∷ more)))) (sym p.is)
     (next_stored (came d.writer) front records more text (at_V d front records more text size p))
 
-two : (size text : List ℕ) → size ≡ big_bytes 2 (length text) → length size ≡ 2
+pub two : (size text : List ℕ) → size ≡ big_bytes 2 (length text) → length size ≡ 2
 two size text is = ap (λ (l : List ℕ). length l) is ∙ length-bytes_high_first 2 (length text)
 
 all_marked : (d : FileWriter) (front : Front) (records more : List (List ℕ)) (text size : List ℕ) → Putting d front records more text size

@@ -1,6 +1,7 @@
 use Rattle.std.proofs.Common.{◌≡◌, ◌-◌, ℕ, drop, refl, sym, ◌∙◌, ap, arith}
 use Rattle.cms_draft.specs.BlockWriters.{came}
 use Rattle.cms_draft.proofs.BlockWritten.{begun_more, appended_on, appended_stops, own_kept, own_on, same_none, mark_here, wrote_none}
+use Rattle.cms_draft.proofs.WriterSteps.{begun_later, begun_room, counts_failed, counts_so_far}
 use Rattle.cms_draft.proofs.block_writer.BlockWriter.append.Goals as goal
 
 pub append-init : goal.append-init
@@ -55,3 +56,43 @@ pub returns-in-Err-clause-own : goal.returns-in-Err-clause-own
 returns-in-Err-clause-own g c =
     own_on (g.W.World.told c.args.world.now) (g.W.World.told c.append.world)
     (g.W.World.told c.take.new.world) c.args.self.now c.append.self c.append.invariant.begun.same c.append.invariant.own c.in-Err.ensures.own
+
+pub take-requires-clause-is : goal.take-requires-clause-is
+take-requires-clause-is g c = c.append.invariant.is
+
+pub take-requires-clause-unfilled : goal.take-requires-clause-unfilled
+take-requires-clause-unfilled g c = c.append.invariant.unfilled
+
+pub take-requires-clause-room : goal.take-requires-clause-room
+take-requires-clause-room g c = begun_room c.args.self.now c.append.self c.args.bytes.now c.append.rest.now c.append.invariant.begun c.requires.room
+
+pub take-requires-clause-ready : goal.take-requires-clause-ready
+take-requires-clause-ready g c = c.append.invariant.ready
+
+pub returns-in-Err-clause-later : goal.returns-in-Err-clause-later
+returns-in-Err-clause-later g c =
+    let i = c.append.invariant in
+    begun_later c.args.self.now c.append.self c.take.new.self c.args.bytes.now c.append.rest.now i.begun i.last c.in-Err.ensures.later
+
+pub returns-in-Err-clause-still : goal.returns-in-Err-clause-still
+returns-in-Err-clause-still g c = c.in-Err.ensures.still
+
+pub returns-in-Err-clause-counts : goal.returns-in-Err-clause-counts
+returns-in-Err-clause-counts g c =
+    let i = c.append.invariant in
+    counts_failed i.faults i.edges c.in-Err.ensures.counts
+
+pub returns-clause-writes : goal.returns-clause-writes
+returns-clause-writes g c = c.append.invariant.writes
+
+pub returns-clause-mark : goal.returns-clause-mark
+returns-clause-mark g c = c.append.invariant.begun.mark
+
+pub returns-clause-own : goal.returns-clause-own
+returns-clause-own g c = c.append.invariant.own
+
+pub returns-clause-still : goal.returns-clause-still
+returns-clause-still g c = c.append.invariant.ready
+
+pub returns-clause-counts : goal.returns-clause-counts
+returns-clause-counts g c = counts_so_far _ _ c.append.invariant.faults c.append.invariant.edges
