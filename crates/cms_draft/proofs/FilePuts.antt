@@ -18,7 +18,7 @@ use Rattle.cms_model.proofs.Quotients.{up_some}
 use Rattle.cms_tree.specs.declared.types.Mark.{Mark}
 use Rattle.cms_tree.specs.Builds.{IsBuildable}
 use Rattle.cms_held.specs.HeldVolumes.{HeldTree}
-use Rattle.cms_fields.specs.Limits.{most_bytes}
+use Rattle.cms_fields.specs.Limits.{most_bytes, most_records}
 use Rattle.cms_draft.specs.declared.shape.DraftShape.{DraftShape}
 use Rattle.std.proofs.lemmas.List.{length-map}
 use Rattle.std.proofs.lemmas.List.Elements.{All-nil}
@@ -499,3 +499,20 @@ file_finishes old new d front records r i h writes =
     writes front.nodes (stored_on d.shape.format front records) (marks_in d front records)
     (subst (λ (l : List (List ℕ)). Streams d.writer front.nodes (stored_on d.shape.format front l) (marks_in d front l)) (append-nil records) h.streams)
     (all_end_marks d.shape.format d.writer front records i.pointer i.writer h.mark h.begins h.came_is i.unfilled)
+
+-- a new file is as a drafted one always is
+pub fresh_drafting : (unit bsize psize : ℕ) (shape : DraftShape) (tree : HeldTree) (w : BlockWriter) → psize ≡ pointer_size shape.format → shape.count ≤ most_records
+    → IsNewWriter unit bsize psize shape.bytes tree w → IsDrafting (record { shape = shape; put = 0; writer = w })
+fresh_drafting unit bsize psize shape tree w psize_is few n =
+    let low = (short_blocks w.bsize n.is.size).0 in
+    let none = n.start.filled in
+    record {
+      writer = n.is;
+      unfilled = omega (arith, low, none);
+      within = rw (n.start.whole, n.start.filled) (omega arith);
+      size = n.start.size_is;
+      pointer = n.start.psize_is ∙ psize_is;
+      put_few = omega arith;
+      few = few;
+      begun = rw n.start.mark (omega arith);
+    }
