@@ -25,8 +25,6 @@ reads_next old told first c next some b same file is reads = λ j left at has.
     (subst (λ (u : ℕ). HandsOut (now j u) next left (Ok some)) file.unit
     (reads j (same ∙ at) left (subst (λ (u : ℕ). HasLeft (now j u) c left) (sym file.unit) has)))
 
-}
-
 pub same_file : (c : Cursor) → SameFile c c
 same_file c = record { unit = refl; total = refl; bsize = refl; leaves = refl; fixed = refl; longest = refl }
 
