@@ -1,5 +1,5 @@
 -- The unread bytes in a console's buffer.
-use Rattle.std.proofs.Common.{◌≡◌, ℕ, ◌+◌, ◌-◌, ◌≤◌, List, [], Vec, length-append, ◌++◌, length, take, drop, refl, ap, sym, ◌∙◌, arith, append-nil}
+use Rattle.std.proofs.Common.{◌≡◌, ℕ, ◌+◌, ◌-◌, ◌<◌, ◌≤◌, List, [], Vec, length-append, ◌++◌, length, take, drop, refl, ap, sym, ◌∙◌, arith, append-nil}
 use Rattle.std.proofs.lemmas.Grind.{common_steps}
 use borrow.Rule.Slice.PartMut.{put_mid, post_of}
 use Rattle.std.specs.Vec.{with_items}
@@ -67,3 +67,47 @@ filled_items v old copied into start end count ordered inside long same is all w
 
 pub rest_length : (xs : List ℕ) (n : ℕ) → length (take (length xs - n) (drop n xs)) ≡ length xs - n
 rest_length xs n = grind (arith, common_steps)
+
+-- where nothing is read the unread bytes stay
+pub kept_items : (v : Vec ℕ Global) (old copied into : List ℕ) (start end : ℕ) → start ≤ end → end ≤ length old → length old ≡ v.len → copied ≡ v.items → v.items ≡ copy_within old start end 0
+    → length into ≡ length copied - (end - start)
+    → take (end - start - 0) (drop 0 (with_items v (put_mid (end - start) (length copied - (end - start)) copied into)).items) ≡ take (end - start) (drop start old)
+kept_items v old copied into start end ordered inside long same is all =
+    let buffer : List ℕ = (with_items v (put_mid (end - start) (length copied - (end - start)) copied into)).items in
+    let whole : end - start - 0 ≡ end - start + 0 = omega arith in
+    ap (λ (n : ℕ). take n buffer) whole ∙ filled_items v old copied into start end 0 ordered inside long same is all (omega arith) ∙ append-nil (take (end - start) (drop start old))
+
+-- the buffer keeps its length
+pub as_long : (v : Vec ℕ Global) (xs : List ℕ) (n : ℕ) → n ≤ v.len → n ≤ length (with_items v xs).items
+as_long v xs n within =
+    let len : v.len ≡ length (with_items v xs).items = (with_items v xs).ok.0 in
+    omega (arith, len, within)
+
+-- the bytes that were read have room
+pub read_fits : (v : Vec ℕ Global) (old copied into : List ℕ) (start end count : ℕ) → end ≤ length old → length old ≡ v.len → copied ≡ v.items
+    → length into ≡ length copied - (end - start) → count ≤ length into → end - start + count ≤ v.len
+read_fits v old copied into start end count inside long same all within =
+    let held : v.len ≡ length v.items = v.ok.0 in
+    let size : length copied ≡ length v.items = ap length same in
+    omega (arith, held, size, long, all, within, inside)
+
+-- there is room for more
+pub room_left : (old copied : List ℕ) (start end : ℕ) → start ≤ end → end ≤ length old → 4096 ≤ length old → length copied ≡ length old → length (take (end - start) (drop start old)) ≤ 256
+    → 0 < length (take (length copied - (end - start)) (drop (end - start) copied))
+room_left old copied start end ordered inside roomy same few = omega (arith, unread_length old start end ordered inside, rest_length copied (end - start))
+
+pub moved_within : (buffer : List ℕ) (start end count : ℕ) → start ≤ end → count ≤ length (take (end - start) (drop start buffer)) → start + count ≤ end
+moved_within buffer start end count ordered within =
+    let short : length (take (end - start) (drop start buffer)) ≤ end - start = grind (arith, common_steps) in
+    omega (arith, short, within, ordered)
+
+pub at_least_none : (n : ℕ) → 0 ≤ n
+at_least_none n = omega arith
+
+pub fewer_than_held : (old : List ℕ) (len start end : ℕ) → end ≤ length old → length old ≡ len → end - start ≤ len
+fewer_than_held old len start end inside size = omega arith
+
+pub moved_past : (buffer : List ℕ) (start end place : ℕ) → start ≤ end → place < length (take (end - start) (drop start buffer)) → start + place + 1 ≤ end
+moved_past buffer start end place ordered within =
+    let short : length (take (end - start) (drop start buffer)) ≤ end - start = grind (arith, common_steps) in
+    omega (arith, short, within, ordered)

@@ -5,6 +5,7 @@ pub mod CodedLines
 pub mod ConsoleTaken
 pub mod ConsoleViews
 pub mod ConsoleReads
+pub mod ConsoleExits
 pub mod TokenLemmas
 pub mod OptionLemmas
 pub mod TextsAdded
