@@ -3,3 +3,4 @@ mod UnitLemmas
 mod UnitLists
 pub mod CommandLemmas
 mod ReadingLemmas
+pub mod ZoneSeconds
