@@ -2,3 +2,4 @@ pub mod OperandLemmas
 pub mod ChoiceLemmas
 pub mod Examples
 pub mod Patterns
+pub mod Gotten
