@@ -3,12 +3,23 @@ mod Borrows
 mod ByCases
 mod ByLabels
 mod ByRelation
+mod EachSet
+mod FirstWord
+mod Firsts
 mod Fronts
 mod GivenNames
+mod Guards
+mod KeywordsSaid
+mod OneSet
 mod OneWord
+mod Passed
+mod PlainValues
 pub mod Places
 mod Searches
+mod SentWords
 mod Settled
 mod Sums
 mod Tails
 mod Undone
+mod WordsRead
+mod WordsTaken

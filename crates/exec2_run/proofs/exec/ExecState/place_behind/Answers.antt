@@ -1,0 +1,22 @@
+use Rattle.exec2_run.specs.Jumps.{skipped_by}
+use Rattle.exec2_run.proofs.Passed.{match_fails_so}
+use Rattle.exec2_run.proofs.WordsTaken.{skips_cut, skips_not, skips_one}
+use Rattle.exec2_run.proofs.exec.ExecState.place_behind.Goals as goal
+
+pub returns-in_err-whole : goal.returns-in_err-whole
+returns-in_err-whole c =
+    let a = c.args in
+    let why = c.in_err-whole.field-0.0 in
+    match_fails_so (skipped_by a.self.now a.words.now a.is_cut) c.from_residual.result _ why c.from_residual.ensures.1
+    (skips_cut a.self.now a.words.now a.is_cut c.in_default.len_below why c.in_err-whole.ensures)
+
+pub returns-in_err-place : goal.returns-in_err-place
+returns-in_err-place c =
+    let a = c.args in
+    let why = c.in_err-place.field-0.0 in
+    match_fails_so (skipped_by a.self.now a.words.now a.is_cut) c.from_residual-in_err-place.result _ why c.from_residual-in_err-place.ensures.1
+    (skips_not a.self.now a.words.now a.is_cut c.in_default.len_below c.in_ok-whole.field-0 why c.in_ok-whole.ensures c.in_err-place.ensures)
+
+pub returns-in_default : goal.returns-in_default
+returns-in_default c =
+    skips_one c.args.self.now c.args.words.now c.args.is_cut c.in_default.len_below c.in_ok-whole.field-0 c.in_ok-place.place c.in_ok-whole.ensures c.in_ok-place.ensures
