@@ -1,20 +1,26 @@
 -- The steps of opening, each as a test of the order gives it.
-use Rattle.std.specs.Prelude.{◌≡◌, ◌≤◌, ℕ, ◌-◌, Bool, false, List, [], ◌++◌, drop, slice_index_or, Option, None, Some, Result, Ok, Err}
+use Rattle.std.specs.Prelude.{◌≡◌, ◌≤◌, ◌<◌, ◌^◌, ◌+◌, ◌*◌, ◌/◌, ℕ, ◌-◌, Bool, true, false, List, [], ◌++◌, All, length, drop, slice_index_or, Option, None, Some, Result, Ok, Err}
 use Rattle.std.specs.Option.{ForSome}
-use Rattle.cms_journal.specs.Journal.{Journal, contents_of}
+use Rattle.cms_journal.specs.Journal.{IsBlockSize, Journal, contents_of}
 use Rattle.cms_names.specs.declared.name.Format.TheVariants.{F}
+use Rattle.cms_fields.specs.Entries.{passes}
+use Rattle.cms_fields.specs.Limits.{most_files}
+use Rattle.cms_fields.specs.Numbers.{up}
 use Rattle.cms_fields.specs.Steps.{◌>>=◌, ◌>>◌}
 use Rattle.cms_fields.specs.declared.entry.Entry.{Entry}
+use Rattle.cms_model.specs.DirectoryParts.{directory_count}
 use Rattle.cms_model.specs.Lists.{In, holds, cut, first_repeat}
 use Rattle.cms_model.specs.Maps.{lowest_unmarked, lost_count}
 use Rattle.cms_model.specs.Trees.{Image, Met, image_of, form_of, tree, bytes_at}
+use Rattle.cms_model.specs.Sizes.{levels, pointer_count}
 use Rattle.cms_model.specs.Systems.{SystemFile, directory_of, map_of}
 use Rattle.cms_model.specs.Volumes.{entries_of, first_twice, file_trees, absent}
 use Rattle.cms_model.specs.declared.fault.OpenFault.{OpenFault}
 use Rattle.cms_model.specs.declared.fault.OpenFault.TheVariants as failed
 use Rattle.cms_tree.specs.declared.types.TreeAt.{TreeAt}
 use Rattle.cms_tree.specs.declared.types.Walked.{Walked}
-use Rattle.cms_tree.specs.Walks.{tree_at, nodes_at}
+use Rattle.cms_tree.specs.Walks.{IsWithin, tree_at, nodes_at}
+use Rattle.cms_edf.specs.EntryShapes.{HasShape, HasSize}
 use Rattle.cms_edf.specs.declared.listing.Place.{Place}
 use Rattle.cms_edf.specs.declared.listing.Listing.{Listing}
 use Rattle.cms_held.specs.HeldVolumes.{IsFaultOf}
@@ -87,6 +93,25 @@ abbrev pub ReadsListed : Place → Image → Result Listing OpenFault → Type 0
 ReadsListed place image (Ok l) = (listed_in place.bsize place.total place.origin image ≡ Ok (listed l))
     × (l.walked.pointers.items ≡ nodes_at image (system_at place l.directory (Some place.origin)))
 ReadsListed place image (Err why) = IsFaultOf (listed_in place.bsize place.total place.origin image) why
+
+-- what else is so of a directory that was read: its own entry and the map's have the blocks that their trees need, its tree is whole and
+-- within the volume, and the files' entries fit in it, pass their tests and have distinct names
+pub record IsListing (place : Place) (l : Listing) : Type 0 where
+  pub map_shape : (1 ≤ l.map.blocks) × (l.map.levels ≡ levels (place.bsize / 4) l.map.blocks)
+  pub room : place.total ≤ 8 * (l.map.blocks * place.bsize)
+  pub directory_shape : l.directory.levels ≡ levels (place.bsize / 4) l.directory.blocks
+  pub size : IsBlockSize place.bsize
+  pub leaves : (1 ≤ l.directory.blocks) × (length l.walked.leaves.items ≡ l.directory.blocks)
+  pub pointers : length l.walked.pointers.items ≡ pointer_count (place.bsize / 4) l.directory.blocks
+  pub small : (l.directory.blocks < 2 ^ 32) × (l.map.blocks < 2 ^ 32)
+  pub counts : (l.directory.blocks ≡ directory_count place.bsize (length l.entries.items)) × (l.map.blocks ≡ up (up place.total 8) place.bsize)
+  pub room_for_entries : (length l.entries.items + 2) * 64 ≤ length l.walked.leaves.items * place.bsize
+  pub shapes : All (HasShape place.bsize) l.entries.items
+  pub sizes : All (HasSize place.bsize) l.entries.items
+  pub passing : All (λ e. passes place.bsize e ≡ true) l.entries.items
+  pub names : first_twice 2 [] l.entries.items ≡ None
+  pub few : length l.entries.items ≤ most_files
+  pub within : IsWithin place.total (Some place.origin) l.walked
 
 -- the trees of the map and of the files
 pub record Treed : Type 0 where

@@ -1,18 +1,13 @@
 // Any volume is opened, test by test.
-ghost use Rattle.std.specs.Prelude.{◌≡◌, ◌⊎◌, ◌≤◌, ◌<◌, ◌+◌, ◌^◌, ◌*◌, ◌/◌, [], All, true, Some, None, IfOk, IfErr, OnOk, length};
+ghost use Rattle.std.specs.Prelude.{◌≡◌, ◌⊎◌, ◌≤◌, ◌<◌, ◌/◌, [], Some, None, IfOk, IfErr, OnOk, length};
 ghost use Rattle.std.specs.Option.{ForSome};
-ghost use Rattle.cms_journal.specs.Journal.{HasBlocks, IsBlockSize, contents_of};
-ghost use Rattle.cms_fields.specs.Entries.{passes};
-ghost use Rattle.cms_model.specs.Trees.{image_of};
-ghost use Rattle.cms_fields.specs.Numbers.{up};
-ghost use Rattle.cms_model.specs.DirectoryParts.{directory_count};
+ghost use Rattle.cms_journal.specs.Journal.{HasBlocks};
 ghost use Rattle.cms_model.specs.Sizes.{levels, pointer_count};
 ghost use Rattle.cms_model.specs.Volumes.{absent, first_twice};
 ghost use Rattle.cms_model.specs.declared.fault.OpenFault.TheVariants as failed;
-ghost use Rattle.cms_tree.specs.Walks.{IsWithin, image_at};
-ghost use Rattle.cms_held.specs.HeldVolumes.{IsFaultOf, AnswersOpening};
-ghost use Rattle.cms_edf.specs.OpeningSteps.{OfImage, ReadsTree, ReadsListed, ReadsMap, system_at};
-ghost use Rattle.cms_edf.specs.EntryShapes.{HasShape, HasSize};
+ghost use Rattle.cms_tree.specs.Walks.{IsWithin};
+ghost use Rattle.cms_held.specs.HeldVolumes.{IsFaultOf};
+ghost use Rattle.cms_edf.specs.OpeningSteps.{IsListing, OfImage, ReadsListed, ReadsMap, system_at};
 ghost use Rattle.cms_fields.specs.Limits.{most_files};
 ghost use Rattle.cms_world.specs.Seen.{OnlyReads, seen};
 
@@ -91,29 +86,7 @@ pub fn read_listing<W: World>(
         (λ j. HasBlocks j.units place.now.unit place.now.total place.now.bsize) }
     ensures read { OfImage (W.told world.old) place.now.unit
         (λ image. ReadsListed place.now image result) }
-    ensures map { IfOk result (λ l. (1 ≤ l.map.blocks)
-        × (l.map.levels ≡ levels (place.now.bsize / 4) l.map.blocks)) }
-    ensures room { IfOk result (λ l. place.now.total ≤ 8 * (l.map.blocks * place.now.bsize)) }
-    ensures directory { IfOk result (λ l. l.directory.levels
-        ≡ levels (place.now.bsize / 4) l.directory.blocks) }
-    ensures size { IfOk result (λ l. IsBlockSize place.now.bsize) }
-    ensures leaves { IfOk result (λ l. (1 ≤ l.directory.blocks)
-        × (length l.walked.leaves.items ≡ l.directory.blocks)) }
-    ensures pointers { IfOk result (λ l. length l.walked.pointers.items
-        ≡ pointer_count (place.now.bsize / 4) l.directory.blocks) }
-    ensures small { IfOk result (λ l. (l.directory.blocks < 2 ^ 32) × (l.map.blocks < 2 ^ 32)) }
-    ensures counts { IfOk result (λ l.
-        (l.directory.blocks ≡ directory_count place.now.bsize (length l.entries.items))
-        × (l.map.blocks ≡ up (up place.now.total 8) place.now.bsize)) }
-    ensures entries { IfOk result (λ l. (length l.entries.items + 2) * 64
-        ≤ length l.walked.leaves.items * place.now.bsize) }
-    ensures shapes { IfOk result (λ l. All (HasShape place.now.bsize) l.entries.items) }
-    ensures sizes { IfOk result (λ l. All (HasSize place.now.bsize) l.entries.items) }
-    ensures passing { IfOk result (λ l. All
-        (λ e. passes place.now.bsize e ≡ true) l.entries.items) }
-    ensures names { IfOk result (λ l. first_twice 2 [] l.entries.items ≡ None) }
-    ensures few { IfOk result (λ l. length l.entries.items ≤ most_files) }
-    ensures within { IfOk result (λ l. IsWithin place.now.total (Some place.now.origin) l.walked) }
+    ensures holds { IfOk result (IsListing place.now) }
     ensures reads { OnlyReads (seen W.World world.old)
         (seen W.World world.new) failed.Device result }
 {

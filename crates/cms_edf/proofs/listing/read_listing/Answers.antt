@@ -12,6 +12,7 @@ use Rattle.cms_tree.specs.declared.types.TreeAt.{TreeAt}
 use Rattle.cms_held.specs.HeldVolumes.{IsFaultOf}
 use Rattle.cms_edf.specs.OpeningSteps.{met_in, system_at}
 use Rattle.cms_edf.proofs.Listings.{HasEntries, HasTree, counts_are, directory_fault, tree_fault, map_fault, entries_fault, names_fault, listed_so, tree_has, leaf_block, few_files}
+use Rattle.cms_edf.proofs.Exits.{ok_at_err, other_at_err, reads_at_err, reads_at_ok, reads_then}
 use Rattle.cms_edf.proofs.EntryTests.{entries_shaped, entries_small, entries_pass, entries_stand}
 use Rattle.cms_edf.proofs.listing.read_listing.Given as given
 use Rattle.cms_edf.proofs.listing.read_listing.Goals as goal
@@ -24,18 +25,8 @@ returns-in_err-directory-clause-read g c = λ j told.
     let image = image_of (contents_of j place.unit) in
     let p = err_from_is_err_and c.from_residual-in_err-directory.result c.from_residual-in_err-directory.ensures.1 in
     let first : c.in_ok-first.first.items ≡ image place.origin = c.in_ok-first.ensures.bytes j told in
-    let bad : directory_of place.bsize place.origin c.in_ok-first.first.items ≡ Err c.in_err-directory.field-0.0 = search rules in
+    let bad : directory_of place.bsize place.origin c.in_ok-first.first.items ≡ Err c.in_err-directory.field-0.0 = ap (directory_of place.bsize place.origin) (sym c.deref.ensures.value) ∙ sym c.in_err-directory.ensures.is in
     rw (p.1, p.2) (directory_fault place.bsize place.total place.origin image c.in_err-directory.field-0.0 (rw first at bad))
-
-pub returns-in_err-directory-clause-reads : goal.returns-in_err-directory-clause-reads
-returns-in_err-directory-clause-reads g c =
-    let p = err_from_is_err_and c.from_residual-in_err-directory.result c.from_residual-in_err-directory.ensures.1 in
-    record {
-      told = c.in_ok-first.ensures.reads.told;
-      faults = c.in_ok-first.ensures.reads.faults;
-      edges = c.in_ok-first.ensures.reads.edges;
-      cause = rw (p.1, p.2) (λ is. absurd (c.in_err-directory.ensures.device is));
-    }
 
 pub returns-in_err-walked-clause-read : goal.returns-in_err-walked-clause-read
 returns-in_err-walked-clause-read g c = λ j told.
@@ -44,8 +35,8 @@ returns-in_err-walked-clause-read g c = λ j told.
     let p = err_from_is_err_and c.from_residual-in_err-walked.result c.from_residual-in_err-walked.ensures.1 in
     let why = c.in_err-walked.field-0.0 in
     let first : c.in_ok-first.first.items ≡ image place.origin = c.in_ok-first.ensures.bytes j told in
-    let is : directory_of place.bsize place.origin c.in_ok-first.first.items ≡ Ok c.in_ok-directory.directory = search rules in
-    let at : c.system_at-at.result ≡ system_at place c.in_ok-directory.directory (Some place.origin) = search rules in
+    let is : directory_of place.bsize place.origin c.in_ok-first.first.items ≡ Ok c.in_ok-directory.directory = ap (directory_of place.bsize place.origin) (sym c.deref.ensures.value) ∙ sym c.in_ok-directory.ensures.is in
+    let at : c.system_at-at.result ≡ system_at place c.in_ok-directory.directory (Some place.origin) = c.system_at-at.ensures in
     let bad = c.in_err-walked.ensures.read j (c.in_ok-first.ensures.reads.told ∙ told) in
     rw (p.1, p.2) (tree_fault place image c.in_ok-directory.directory why (rw first at is) (c.in_ok-directory.ensures.shape.1)
     (subst (λ (x : TreeAt). IsFaultOf (tree_at (image_of (contents_of j x.unit)) x) why) at bad))
@@ -56,8 +47,8 @@ has_tree : (g : given.Over) (c : After-map_in g) (j : Journal) → g.W.World.tol
 has_tree g c j told =
     let place = c.args.place.now in
     let first : c.in_ok-first.first.items ≡ image_of (contents_of j place.unit) place.origin = c.in_ok-first.ensures.bytes j told in
-    let is : directory_of place.bsize place.origin c.in_ok-first.first.items ≡ Ok c.in_ok-directory.directory = search rules in
-    let at : c.system_at-at.result ≡ system_at place c.in_ok-directory.directory (Some place.origin) = search rules in
+    let is : directory_of place.bsize place.origin c.in_ok-first.first.items ≡ Ok c.in_ok-directory.directory = ap (directory_of place.bsize place.origin) (sym c.deref.ensures.value) ∙ sym c.in_ok-directory.ensures.is in
+    let at : c.system_at-at.result ≡ system_at place c.in_ok-directory.directory (Some place.origin) = c.system_at-at.ensures in
     let read = c.in_ok-walked.ensures.read j (c.in_ok-first.ensures.reads.told ∙ told) in
     tree_has place j c.in_ok-directory.directory c.in_ok-walked.walked c.system_at-at.result (rw first at is) (c.in_ok-directory.ensures.shape.1) at read.0
 
@@ -122,7 +113,7 @@ returns-in_err-names_once-clause-read g c = λ j told.
 pub returns-clause-read : goal.returns-clause-read
 returns-clause-read g c = λ j told.
     let place = c.args.place.now in
-    let at : c.system_at-at.result ≡ system_at place c.in_ok-directory.directory (Some place.origin) = search rules in
+    let at : c.system_at-at.result ≡ system_at place c.in_ok-directory.directory (Some place.origin) = c.system_at-at.ensures in
     let read = c.in_ok-walked.ensures.read j (c.in_ok-first.ensures.reads.told ∙ told) in
     let once : first_twice 2 [] c.in_ok-entries.entries.items ≡ None = search rules in (
       listed_so place _ c.in_ok-directory.directory c.in_ok-map.map (met_in c.in_ok-walked.walked) c.in_ok-entries.entries.items
@@ -130,38 +121,75 @@ returns-clause-read g c = λ j told.
       subst (λ (x : TreeAt). c.in_ok-walked.walked.pointers.items ≡ nodes_at (image_of (contents_of j x.unit)) x) at read.1,
     )
 
-pub returns-clause-within : goal.returns-clause-within
-returns-clause-within g c =
-    let at : c.system_at-at.result ≡ system_at c.args.place.now c.in_ok-directory.directory (Some c.args.place.now.origin) = search rules in
-    subst (λ (x : TreeAt). IsWithin x.volume x.first c.in_ok-walked.walked) at c.in_ok-walked.ensures.within
+pub returns-clause-holds : goal.returns-clause-holds
+returns-clause-holds g c =
+    let place = c.args.place.now in
+    let at : c.system_at-at.result ≡ system_at place c.in_ok-directory.directory (Some place.origin) = c.system_at-at.ensures in
+    let directory = c.in_ok-directory.ensures in
+    let map = c.in_ok-map.ensures in
+    let walked = c.in_ok-walked.ensures in
+    let entries = c.in_ok-entries.ensures in
+    let leaves = walked.count ∙ ap (λ (x : TreeAt). x.count) at in
+    record {
+      map_shape = map.shape;
+      room = map.room;
+      directory_shape = directory.shape.1;
+      size = directory.size;
+      leaves = (directory.shape.0, leaves);
+      pointers = walked.pointers ∙ ap (λ (x : TreeAt). pointer_count (x.bsize / x.psize) x.count) at;
+      small = (directory.few, map.few);
+      counts = counts_are place.bsize place.origin place.total _ c.in_ok-first.first.items (drop 64 c.in_ok-first.first.items) c.in_ok-directory.directory c.in_ok-map.map
+          directory.size (search rules) (search rules) (search rules);
+      room_for_entries = entries_stand _ c.in_ok-directory.directory.count c.in_ok-directory.directory.blocks _ place.bsize (search rules) directory.count.0 directory.count.2 leaves;
+      shapes = entries_shaped place.bsize _ c.in_ok-entries.entries.items directory.size entries.entries;
+      sizes = entries_small place.bsize _ c.in_ok-entries.entries.items directory.size entries.entries;
+      passing = entries_pass place.bsize 2 _ c.in_ok-entries.entries.items entries.entries;
+      names = search rules;
+      few = few_files c.in_ok-directory.directory.count _ (search rules) directory.count.1;
+      within = subst (λ (x : TreeAt). IsWithin x.volume x.first c.in_ok-walked.walked) at walked.within;
+    }
 
-pub returns-clause-shapes : goal.returns-clause-shapes
-returns-clause-shapes g c = entries_shaped c.args.place.now.bsize _ c.in_ok-entries.entries.items c.in_ok-directory.ensures.size c.in_ok-entries.ensures.entries
+pub returns-in_err-first-clause-reads : goal.returns-in_err-first-clause-reads
+returns-in_err-first-clause-reads g c = reads_at_err c.from_residual.result _ c.from_residual.ensures.1 c.in_err-first.ensures.reads
 
-pub returns-clause-passing : goal.returns-clause-passing
-returns-clause-passing g c = entries_pass c.args.place.now.bsize 2 _ c.in_ok-entries.entries.items c.in_ok-entries.ensures.entries
+pub returns-in_err-directory-clause-reads : goal.returns-in_err-directory-clause-reads
+returns-in_err-directory-clause-reads g c = other_at_err c.from_residual-in_err-directory.result _ c.from_residual-in_err-directory.ensures.1 c.in_err-directory.ensures.device c.in_ok-first.ensures.reads
 
-pub returns-clause-sizes : goal.returns-clause-sizes
-returns-clause-sizes g c = entries_small c.args.place.now.bsize _ c.in_ok-entries.entries.items c.in_ok-directory.ensures.size c.in_ok-entries.ensures.entries
+pub returns-in_err-walked-clause-reads : goal.returns-in_err-walked-clause-reads
+returns-in_err-walked-clause-reads g c = reads_at_err c.from_residual-in_err-walked.result _ c.from_residual-in_err-walked.ensures.1 (reads_then c.in_ok-first.ensures.reads c.in_err-walked.ensures.reads)
 
-pub returns-clause-entries : goal.returns-clause-entries
-returns-clause-entries g c =
-    let at : c.system_at-at.result ≡ system_at c.args.place.now c.in_ok-directory.directory (Some c.args.place.now.origin) = search rules in
-    let leaves = c.in_ok-walked.ensures.count ∙ ap (λ (x : TreeAt). x.count) at in
-    entries_stand _ c.in_ok-directory.directory.count c.in_ok-directory.directory.blocks _ c.args.place.now.bsize
-    (search rules) c.in_ok-directory.ensures.count.0 c.in_ok-directory.ensures.count.2 leaves
+pub returns-in_err-map-clause-reads : goal.returns-in_err-map-clause-reads
+returns-in_err-map-clause-reads g c = other_at_err c.from_residual-in_err-map.result _ c.from_residual-in_err-map.ensures.1 c.in_err-map.ensures.device (reads_then c.in_ok-first.ensures.reads c.in_ok-walked.ensures.reads)
 
-pub returns-clause-leaves : goal.returns-clause-leaves
-returns-clause-leaves g c =
-    let at : c.system_at-at.result ≡ system_at c.args.place.now c.in_ok-directory.directory (Some c.args.place.now.origin) = search rules in
-    (c.in_ok-directory.ensures.shape.0, c.in_ok-walked.ensures.count ∙ ap (λ (x : TreeAt). x.count) at)
+pub returns-in_err-bytes-clause-reads : goal.returns-in_err-bytes-clause-reads
+returns-in_err-bytes-clause-reads g c = reads_at_err c.from_residual-in_err-bytes.result _ c.from_residual-in_err-bytes.ensures.1 (reads_then c.in_ok-first.ensures.reads (reads_then c.in_ok-walked.ensures.reads c.in_err-bytes.ensures.reads))
 
-pub returns-clause-pointers : goal.returns-clause-pointers
-returns-clause-pointers g c =
-    let at : c.system_at-at.result ≡ system_at c.args.place.now c.in_ok-directory.directory (Some c.args.place.now.origin) = search rules in
-    c.in_ok-walked.ensures.pointers ∙ ap (λ (x : TreeAt). pointer_count (x.bsize / x.psize) x.count) at
+pub returns-in_err-entries-clause-reads : goal.returns-in_err-entries-clause-reads
+returns-in_err-entries-clause-reads g c = other_at_err c.from_residual-in_err-entries.result _ c.from_residual-in_err-entries.ensures.1 c.in_err-entries.ensures.device (reads_then c.in_ok-first.ensures.reads (reads_then c.in_ok-walked.ensures.reads c.in_ok-bytes.ensures.reads))
 
-pub returns-clause-counts : goal.returns-clause-counts
-returns-clause-counts g c =
-    counts_are c.args.place.now.bsize c.args.place.now.origin c.args.place.now.total _ c.in_ok-first.first.items (drop 64 c.in_ok-first.first.items) c.in_ok-directory.directory c.in_ok-map.map
-    c.in_ok-directory.ensures.size (search rules) (search rules) (search rules)
+pub returns-in_err-names_once-clause-reads : goal.returns-in_err-names_once-clause-reads
+returns-in_err-names_once-clause-reads g c = other_at_err c.from_residual-in_err-names_once.result _ c.from_residual-in_err-names_once.ensures.1 c.in_err-names_once.ensures.device (reads_then c.in_ok-first.ensures.reads (reads_then c.in_ok-walked.ensures.reads c.in_ok-bytes.ensures.reads))
+
+pub returns-clause-reads : goal.returns-clause-reads
+returns-clause-reads g c = reads_at_ok _ (reads_then c.in_ok-first.ensures.reads (reads_then c.in_ok-walked.ensures.reads c.in_ok-bytes.ensures.reads))
+
+pub returns-in_err-first-clause-holds : goal.returns-in_err-first-clause-holds
+returns-in_err-first-clause-holds g c = ok_at_err _ c.from_residual.result _ c.from_residual.ensures.1
+
+pub returns-in_err-directory-clause-holds : goal.returns-in_err-directory-clause-holds
+returns-in_err-directory-clause-holds g c = ok_at_err _ c.from_residual-in_err-directory.result _ c.from_residual-in_err-directory.ensures.1
+
+pub returns-in_err-walked-clause-holds : goal.returns-in_err-walked-clause-holds
+returns-in_err-walked-clause-holds g c = ok_at_err _ c.from_residual-in_err-walked.result _ c.from_residual-in_err-walked.ensures.1
+
+pub returns-in_err-map-clause-holds : goal.returns-in_err-map-clause-holds
+returns-in_err-map-clause-holds g c = ok_at_err _ c.from_residual-in_err-map.result _ c.from_residual-in_err-map.ensures.1
+
+pub returns-in_err-bytes-clause-holds : goal.returns-in_err-bytes-clause-holds
+returns-in_err-bytes-clause-holds g c = ok_at_err _ c.from_residual-in_err-bytes.result _ c.from_residual-in_err-bytes.ensures.1
+
+pub returns-in_err-entries-clause-holds : goal.returns-in_err-entries-clause-holds
+returns-in_err-entries-clause-holds g c = ok_at_err _ c.from_residual-in_err-entries.result _ c.from_residual-in_err-entries.ensures.1
+
+pub returns-in_err-names_once-clause-holds : goal.returns-in_err-names_once-clause-holds
+returns-in_err-names_once-clause-holds g c = ok_at_err _ c.from_residual-in_err-names_once.result _ c.from_residual-in_err-names_once.ensures.1

@@ -15,6 +15,7 @@ use Rattle.cms_map.specs.Bits.{bits_in}
 use Rattle.cms_edf.specs.OpeningSteps.{system_at, listed, met_in, listed_in, trees_in, lost_in}
 use Rattle.cms_edf.specs.OpeningFiles.{HasTrees, HasContents, read_trees, opened, told_files}
 use Rattle.cms_edf.proofs.VolumeOpened.{listing_bad, trees_bad, marks_bad, records_bad, opens, held_so, walked_shape}
+use Rattle.cms_edf.proofs.Exits.{ok_at_err, reads_at_err, reads_at_ok, reads_then}
 use Rattle.cms_edf.proofs.opened_volume.open_labelled.Goals as goal
 
 pub returns-in_err-listing-clause-fault : goal.returns-in_err-listing-clause-fault
@@ -60,7 +61,7 @@ returns-in_err-files-clause-fault g c =
     let why = c.in_err-files.field-0.0 in
     let l = c.in_ok-listing.listing in
     let t = c.in_ok-trees.trees in
-    let entries : c.deref.result.now ≡ l.entries.items = search rules in
+    let entries : c.deref.result.now ≡ l.entries.items = c.deref.ensures.value in
     let p = err_from_is_err_and c.from_residual-in_err-files.result c.from_residual-in_err-files.ensures.1 in
     rw (p.1, p.2) (λ j told.
     let to_trees = c.in_ok-listing.ensures.reads.told ∙ told in
@@ -86,7 +87,7 @@ returns-clause-read g c = λ j told.
     let at = c.place_of-place.ensures in
     let image = image_of (contents_of j a.unit.now.number) in
     let there : Place = record { unit = a.unit.now.number; bsize = a.bsize; total = a.label.blocks; origin = a.label.origin } in
-    let entries : c.deref.result.now ≡ l.entries.items = search rules in
+    let entries : c.deref.result.now ≡ l.entries.items = c.deref.ensures.value in
     let to_trees = c.in_ok-listing.ensures.reads.told ∙ told in
     let to_marks = c.in_ok-trees.ensures.reads.told ∙ to_trees in
     let to_files = c.in_ok-marks.ensures.reads.told ∙ to_marks in
@@ -107,19 +108,19 @@ returns-clause-read g c = λ j told.
       held_is = rw (c.tree_held.ensures, c.tree_held-2.ensures) (held_so there (record { bsize = a.bsize; count = a.unit.now.blocks }) image a.label a.label_bytes.items l t m.map
           (values c.in_ok-files.files) m.lost has.contents refl (c.requires.bytes j told)
           (subst (λ (q : Place). l.walked.pointers.items ≡ nodes_at (image_of (contents_of j q.unit)) (system_at q l.directory (Some q.origin))) at listing.1)
-          (subst (λ (q : Place). l.directory.levels ≡ levels (q.bsize / 4) l.directory.blocks) at c.in_ok-listing.ensures.directory)
+          (subst (λ (q : Place). l.directory.levels ≡ levels (q.bsize / 4) l.directory.blocks) at c.in_ok-listing.ensures.holds.directory_shape)
           (subst (λ (q : Place). HasTrees q (image_of (contents_of j q.unit)) l t) at trees)
-          (subst (λ (q : Place). l.map.levels ≡ levels (q.bsize / 4) l.map.blocks) at c.in_ok-listing.ensures.map.1)
+          (subst (λ (q : Place). l.map.levels ≡ levels (q.bsize / 4) l.map.blocks) at c.in_ok-listing.ensures.holds.map_shape.1)
           (subst (λ (q : Place). m.map ≡ bits_in q.total (bytes_at (image_of (contents_of j q.unit)) t.map.leaves.items)) at bits)
           (subst (λ (q : Place). values c.in_ok-files.files ≡ told_files q.bsize l.entries.items t.files.items has.contents) at has.files_are));
     }
 
 pub invariant_of-result : goal.invariant_of-result
 invariant_of-result g c =
-    let l = c.in_ok-listing.ensures in
+    let l = c.in_ok-listing.ensures.holds in
     let t = c.in_ok-trees.ensures in
     let place = c.place_of-place.ensures in
-    let entries : c.deref.result.now ≡ c.in_ok-listing.listing.entries.items = search rules in
+    let entries : c.deref.result.now ≡ c.in_ok-listing.listing.entries.items = c.deref.ensures.value in
     let files : length (values c.in_ok-files.files) ≡ length c.in_ok-listing.listing.entries.items = c.in_ok-files.ensures.total ∙ ap (λ (es : List Entry). length es) entries in
     record {
       named = search rules;
@@ -138,7 +139,7 @@ invariant_of-result g c =
             ∙ ap (directory_count c.args.bsize) (sym files)));
         map_is = ap (λ (t : HeldTree). length t.leaves) c.tree_held-2.ensures ∙ (t.map.0
             ∙ subst (λ (q : Place). c.in_ok-listing.listing.map.blocks ≡ up (up q.total 8) q.bsize) place l.counts.1);
-        map_shape = walked_shape c.args.bsize c.in_ok-listing.listing.map.blocks _ c.in_ok-trees.trees.map c.tree_held-2.ensures (l.map.0, t.map.0) l.small.1
+        map_shape = walked_shape c.args.bsize c.in_ok-listing.listing.map.blocks _ c.in_ok-trees.trees.map c.tree_held-2.ensures (l.map_shape.0, t.map.0) l.small.1
             (subst (λ (q : Place). length c.in_ok-trees.trees.map.pointers.items ≡ pointer_count (q.bsize / 4) c.in_ok-listing.listing.map.blocks) place t.pointers);
         bits_are = search rules;
         few = search rules;
@@ -148,10 +149,10 @@ invariant_of-result g c =
 
 pub returns-clause-kept : goal.returns-clause-kept
 returns-clause-kept g c =
-    let l = c.in_ok-listing.ensures in
+    let l = c.in_ok-listing.ensures.holds in
     let t = c.in_ok-trees.ensures in
     let place = c.place_of-place.ensures in
-    let entries : c.deref.result.now ≡ c.in_ok-listing.listing.entries.items = search rules in
+    let entries : c.deref.result.now ≡ c.in_ok-listing.listing.entries.items = c.deref.ensures.value in
     let files : length (values c.in_ok-files.files) ≡ length c.in_ok-listing.listing.entries.items = c.in_ok-files.ensures.total ∙ ap (λ (es : List Entry). length es) entries in
     record {
       within = search rules;
@@ -168,9 +169,72 @@ returns-clause-kept g c =
           ∙ ap (directory_count c.args.bsize) (sym files)));
       map_is = ap (λ (t : HeldTree). length t.leaves) c.tree_held-2.ensures ∙ (t.map.0
           ∙ subst (λ (q : Place). c.in_ok-listing.listing.map.blocks ≡ up (up q.total 8) q.bsize) place l.counts.1);
-      map_shape = walked_shape c.args.bsize c.in_ok-listing.listing.map.blocks _ c.in_ok-trees.trees.map c.tree_held-2.ensures (l.map.0, t.map.0) l.small.1
+      map_shape = walked_shape c.args.bsize c.in_ok-listing.listing.map.blocks _ c.in_ok-trees.trees.map c.tree_held-2.ensures (l.map_shape.0, t.map.0) l.small.1
           (subst (λ (q : Place). length c.in_ok-trees.trees.map.pointers.items ≡ pointer_count (q.bsize / 4) c.in_ok-listing.listing.map.blocks) place t.pointers);
       bits_are = search rules;
       few = search rules;
       each = search rules;
     }
+
+pub returns-in_err-listing-clause-reads : goal.returns-in_err-listing-clause-reads
+returns-in_err-listing-clause-reads g c = reads_at_err c.from_residual.result _ c.from_residual.ensures.1 c.in_err-listing.ensures.reads
+
+pub returns-in_err-trees-clause-reads : goal.returns-in_err-trees-clause-reads
+returns-in_err-trees-clause-reads g c = reads_at_err c.from_residual-in_err-trees.result _ c.from_residual-in_err-trees.ensures.1 (reads_then c.in_ok-listing.ensures.reads c.in_err-trees.ensures.reads)
+
+pub returns-in_err-marks-clause-reads : goal.returns-in_err-marks-clause-reads
+returns-in_err-marks-clause-reads g c = reads_at_err c.from_residual-in_err-marks.result _ c.from_residual-in_err-marks.ensures.1 (reads_then c.in_ok-listing.ensures.reads (reads_then c.in_ok-trees.ensures.reads c.in_err-marks.ensures.reads))
+
+pub returns-in_err-files-clause-reads : goal.returns-in_err-files-clause-reads
+returns-in_err-files-clause-reads g c = reads_at_err c.from_residual-in_err-files.result _ c.from_residual-in_err-files.ensures.1 (reads_then c.in_ok-listing.ensures.reads (reads_then c.in_ok-trees.ensures.reads (reads_then c.in_ok-marks.ensures.reads c.in_err-files.ensures.reads)))
+
+pub returns-clause-reads : goal.returns-clause-reads
+returns-clause-reads g c = reads_at_ok _ (reads_then c.in_ok-listing.ensures.reads (reads_then c.in_ok-trees.ensures.reads (reads_then c.in_ok-marks.ensures.reads c.in_ok-files.ensures.reads)))
+
+pub returns-in_err-listing-clause-read : goal.returns-in_err-listing-clause-read
+returns-in_err-listing-clause-read g c = ok_at_err _ c.from_residual.result _ c.from_residual.ensures.1
+
+pub returns-in_err-listing-clause-disk : goal.returns-in_err-listing-clause-disk
+returns-in_err-listing-clause-disk g c = ok_at_err _ c.from_residual.result _ c.from_residual.ensures.1
+
+pub returns-in_err-listing-clause-unit : goal.returns-in_err-listing-clause-unit
+returns-in_err-listing-clause-unit g c = ok_at_err _ c.from_residual.result _ c.from_residual.ensures.1
+
+pub returns-in_err-listing-clause-kept : goal.returns-in_err-listing-clause-kept
+returns-in_err-listing-clause-kept g c = ok_at_err _ c.from_residual.result _ c.from_residual.ensures.1
+
+pub returns-in_err-trees-clause-read : goal.returns-in_err-trees-clause-read
+returns-in_err-trees-clause-read g c = ok_at_err _ c.from_residual-in_err-trees.result _ c.from_residual-in_err-trees.ensures.1
+
+pub returns-in_err-trees-clause-disk : goal.returns-in_err-trees-clause-disk
+returns-in_err-trees-clause-disk g c = ok_at_err _ c.from_residual-in_err-trees.result _ c.from_residual-in_err-trees.ensures.1
+
+pub returns-in_err-trees-clause-unit : goal.returns-in_err-trees-clause-unit
+returns-in_err-trees-clause-unit g c = ok_at_err _ c.from_residual-in_err-trees.result _ c.from_residual-in_err-trees.ensures.1
+
+pub returns-in_err-trees-clause-kept : goal.returns-in_err-trees-clause-kept
+returns-in_err-trees-clause-kept g c = ok_at_err _ c.from_residual-in_err-trees.result _ c.from_residual-in_err-trees.ensures.1
+
+pub returns-in_err-marks-clause-read : goal.returns-in_err-marks-clause-read
+returns-in_err-marks-clause-read g c = ok_at_err _ c.from_residual-in_err-marks.result _ c.from_residual-in_err-marks.ensures.1
+
+pub returns-in_err-marks-clause-disk : goal.returns-in_err-marks-clause-disk
+returns-in_err-marks-clause-disk g c = ok_at_err _ c.from_residual-in_err-marks.result _ c.from_residual-in_err-marks.ensures.1
+
+pub returns-in_err-marks-clause-unit : goal.returns-in_err-marks-clause-unit
+returns-in_err-marks-clause-unit g c = ok_at_err _ c.from_residual-in_err-marks.result _ c.from_residual-in_err-marks.ensures.1
+
+pub returns-in_err-marks-clause-kept : goal.returns-in_err-marks-clause-kept
+returns-in_err-marks-clause-kept g c = ok_at_err _ c.from_residual-in_err-marks.result _ c.from_residual-in_err-marks.ensures.1
+
+pub returns-in_err-files-clause-read : goal.returns-in_err-files-clause-read
+returns-in_err-files-clause-read g c = ok_at_err _ c.from_residual-in_err-files.result _ c.from_residual-in_err-files.ensures.1
+
+pub returns-in_err-files-clause-disk : goal.returns-in_err-files-clause-disk
+returns-in_err-files-clause-disk g c = ok_at_err _ c.from_residual-in_err-files.result _ c.from_residual-in_err-files.ensures.1
+
+pub returns-in_err-files-clause-unit : goal.returns-in_err-files-clause-unit
+returns-in_err-files-clause-unit g c = ok_at_err _ c.from_residual-in_err-files.result _ c.from_residual-in_err-files.ensures.1
+
+pub returns-in_err-files-clause-kept : goal.returns-in_err-files-clause-kept
+returns-in_err-files-clause-kept g c = ok_at_err _ c.from_residual-in_err-files.result _ c.from_residual-in_err-files.ensures.1
