@@ -99,11 +99,8 @@ fn doubled_on(
     disk: &mut Minidisk,
     name: &Name,
 ) -> Result<(), DiskFault> {
-    let Some(place) = disk.find(name) else {
-        return Err(DiskFault::NotFound);
-    };
     let more = disk.get(alloc, world, name)?;
-    disk.append(alloc, world, place, name, &more, &WRITTEN)
+    disk.append(alloc, world, name, &more, &WRITTEN)
 }
 
 // Puts a file under each name of a case, or adds the records to those of each file: the last answer.

@@ -126,7 +126,7 @@ fn add(
     if !may_follow(&info, more) {
         return Err(DiskFault::NotFound);
     }
-    disk.append(alloc, world, place, name, more, &WRITTEN)
+    disk.append(alloc, world, name, more, &WRITTEN)
 }
 
 // Puts a file under a name.
