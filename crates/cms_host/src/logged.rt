@@ -49,7 +49,7 @@ impl Logged {
         }
     }
 
-    fn asked(&mut self, call: char)
+    pub(crate) fn asked(&mut self, call: char)
         ensures { self.new.deeds.items ≡ self.old.deeds.items }
     {
         let _ = self.log.push(call);

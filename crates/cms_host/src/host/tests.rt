@@ -11,8 +11,16 @@ use std::test::Fail;
 use std::time::{Clock, Duration};
 use std::{env, fs, io};
 
+/// A test has passed where it tells what is wanted; else it fails by what it tells.
+pub(crate) fn same(told: &str, wanted: &str) -> Result<(), Fail> {
+    if told == wanted {
+        return Ok(());
+    }
+    Err(Fail::new(format_args!("{told}, not {wanted}")))
+}
+
 /// The path of a file of these tests.
-pub(crate) fn path(rt: &HostRuntime, name: &str) -> Result<String, Fail> {
+pub(crate) fn path(rt: &HostRuntime, name: &str) -> io::Result<String> {
     let folder = env::temp_dir(rt)?;
     let id = std::process::id(rt.process());
     Ok(format!(in rt.alloc(); "{}/cms-{id}-{name}", folder.as_str())?)
@@ -23,60 +31,84 @@ pub(crate) fn host(rt: &HostRuntime) -> Host<&HostRuntime> {
     Host::new(rt.alloc(), rt)
 }
 
-fn opened(rt: &HostRuntime, name: &str, writes: bool) -> io::Result<File> {
-    OpenOptions::new().read(true).write(writes).open(rt, name)
+// Has a host keep a file that is open to be read, and perhaps written.
+fn keep_file<R: Files<File = File> + io::Input + Print + Eprint + Clock + Drop>(
+    rt: &HostRuntime,
+    host: &mut Host<R>,
+    name: &str,
+    writes: bool,
+) -> io::Result<()> {
+    let file = OpenOptions::new().read(true).write(writes).open(rt, name)?;
+    host.keep(file, name)?;
+    Ok(())
 }
 
-/// Has a host keep three files: one that is open to be read alone, a device that can't be synced, and the first again to be written.
-pub(crate) fn keep_files<R: Files<File = File> + io::Input + Print + Eprint + Clock + Drop>(
+// Has a host keep three files: one that is open to be read alone, a device that can't be synced, and the first again to be written.
+fn keep_files<R: Files<File = File> + io::Input + Print + Eprint + Clock + Drop>(
     rt: &HostRuntime,
     host: &mut Host<R>,
     name: &str,
 ) -> io::Result<()> {
     fs::write(rt, name, &[7; 1024])?;
-    host.keep(opened(rt, name, false)?, name)?;
-    host.keep(opened(rt, "/dev/null", true)?, name)?;
-    host.keep(opened(rt, name, true)?, name)?;
-    Ok(())
+    keep_file(rt, host, name, false)?;
+    keep_file(rt, host, "/dev/null", true)?;
+    keep_file(rt, host, name, true)
 }
 
-/// Adds whether the file that is open to be read alone is read and written, and the device synced; whether each block of the image is read
-/// once its file is cut off in the second, and written; and whether files and folders that aren't there are synced.
-pub(crate) fn push_failures<S: System>(
-    told: &mut String,
-    host: &mut S,
-    name: &str,
-) -> Result<(), AllocError> {
+// Whether it went.
+fn went<T: Drop>(came: io::Result<T>) -> bool {
+    came.is_ok()
+}
+
+// Adds whether the file that is open to be read alone is read and written, and the device synced; whether each block of the image is read
+// once its file is cut off in the second, and written; and whether files and folders that aren't there are synced.
+fn push_failures<S: System>(told: &mut String, host: &mut S, name: &str) -> Result<(), AllocError> {
     let mut block = [0; 512];
     let said = [
         host.read_at(0, &mut block, 512),
         host.write_at(0, &block, 0),
         host.sync(1),
-        host.set_size(2, 600).is_ok(),
+        went(host.set_size(2, 600)),
         host.read_at(2, &mut block, 0),
         host.read_at(2, &mut block, 512),
         host.write_at(2, &block, 512),
         host.sync(2),
         host.sync(9),
-        host.sync_folder(name).is_ok(),
-        host.sync_folder("/dev/null/x").is_ok(),
+        went(host.sync_folder(name)),
+        went(host.sync_folder("/dev/null/x")),
     ];
     writeln!(told, "{said:?}")
 }
 
-/// Adds whether a name that isn't there, a device and a folder are opened.
-pub(crate) fn push_opened<S: System>(
+// Adds whether a name that isn't there, a device and a folder are opened.
+fn push_opened<S: System>(
     told: &mut String,
     host: &mut S,
     missing: &str,
 ) -> Result<(), AllocError> {
     let said = [
-        host.open(missing, Access::ReadWrite).is_ok(),
-        host.open(missing, Access::ReadOnly).is_ok(),
-        host.open("/dev/null", Access::ReadOnly).is_ok(),
-        host.open("/", Access::ReadOnly).is_ok(),
+        went(host.open(missing, Access::ReadWrite)),
+        went(host.open(missing, Access::ReadOnly)),
+        went(host.open("/dev/null", Access::ReadOnly)),
+        went(host.open("/", Access::ReadOnly)),
     ];
     writeln!(told, "{said:?}")
+}
+
+/// Adds what comes of files that are kept, and of names that aren't opened, of which the new one isn't there then. The old file is removed.
+pub(crate) fn push_kept<'a, R: Files<File = File> + io::Input + Print + Eprint + Clock + Drop>(
+    told: &mut String,
+    rt: &HostRuntime,
+    host: Host<R>,
+    (old, new): (&'a str, &'a str),
+) -> io::Result<()> {
+    let mut host = host;
+    keep_files(rt, &mut host, old)?;
+    push_failures(told, &mut host, old)?;
+    fs::remove_file(rt, old)?;
+    push_opened(told, &mut host, new)?;
+    writeln!(told, "{}", went(fs::metadata(rt, new)))?;
+    Ok(())
 }
 
 // A printer that takes three bytes at a call, is interrupted at every second one, and fails where it has no room.
@@ -182,10 +214,12 @@ fn push_writes(told: &mut String) -> Result<(), AllocError> {
 
 // The folders that hold names.
 fn push_folders(told: &mut String) -> Result<(), AllocError> {
-    for name in ["w.img", "a/w.img", "/w.img"] {
-        writeln!(told, "{}", folder_of(name))?;
-    }
-    Ok(())
+    let folders = [
+        folder_of("w.img"),
+        folder_of("a/w.img"),
+        folder_of("/w.img"),
+    ];
+    writeln!(told, "{folders:?}")
 }
 
 // What comes of clocks and streams that fail, and the folders.
@@ -193,9 +227,7 @@ const TOLD: &str = "\
 [Some(946684800), Some(0), None]
 [Some(3), None] XXX--
 [Some(3), Some(1), None]
-.
-a
-/
+[\".\", \"a\", \"/\"]
 ";
 
 fn push_all(told: &mut String) -> Result<(), AllocError> {
@@ -208,7 +240,6 @@ fn push_all(told: &mut String) -> Result<(), AllocError> {
 #[test]
 fn clocks_and_streams_that_fail(rt: HostRuntime) -> Result<(), Fail> {
     let mut told = String::new(rt.alloc());
-    push_all(&mut told)?;
-    assert_eq!(rt; told.as_str(), TOLD);
-    Ok(())
+    push_all(&mut told).expect(&rt, "memory");
+    same(&told, TOLD)
 }
