@@ -1,4 +1,5 @@
 mod Printed
 mod Found
 mod HeldBytes
+mod Exits
 mod Failures

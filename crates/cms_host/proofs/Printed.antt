@@ -1,9 +1,9 @@
 -- What is gathered, and what is told, once a front was printed and more was done.
-use Rattle.std.proofs.Common.{◌≡◌, ◌∙◌, ◌≤◌, ◌<◌, ◌+◌, ◌++◌, ℕ, List, [], ◌∷◌, length, take, drop, refl, sym, ap, subst, append_assoc, append-nil, arith, length-drop}
-use Rattle.std.specs.Prelude.{Option, Some, None, IfSome}
+use Rattle.std.proofs.Common.{◌≡◌, ◌∙◌, ◌≤◌, ◌<◌, ◌+◌, ◌++◌, ℕ, List, [], ◌∷◌, length, take, drop, refl, sym, ap, subst, append_assoc, append-nil, inl, inr, arith, length-drop}
+use Rattle.std.specs.Prelude.{Option, Some, None, IfSome, OnSome, ◌⊎◌}
 use Rattle.std.proofs.Math.ListN.{take-append-drop}
 use Rattle.std.proofs.lemmas.List.{drop_all, take_all, take-take, drop-take, drop-append-le, drop-drop, map-append}
-use Rattle.cms_host.specs.Deeds.{then_done, printing, Prints, PrintsThen}
+use Rattle.cms_host.specs.Deeds.{then_done, MayDo, printing, Prints, PrintsThen}
 use Rattle.cms_host.specs.declared.system.Deed.{Deed}
 use Rattle.cms_host.specs.declared.system.Deed.TheVariants.{Printed}
 
@@ -124,6 +124,19 @@ done_behind more old mid new t t1 t2 prints none same done = record {
   left = same ∙ none;
   done = two_steps (printing old) more t t1 t2 (front_is_all old mid t t1 none prints) done;
 }
+
+-- the same where there is an answer
+pub some_behind : (count : Option ℕ) (more : List Deed) (old mid : List ℕ) (t t1 t2 : Option (List Deed)) → Prints old mid t t1 → mid ≡ [] → OnSome count (t2 ≡ then_done t1 more) → OnSome count (PrintsThen more old mid t t2)
+some_behind None more old mid t t1 t2 prints none done = tt
+some_behind (Some n) more old mid t t1 t2 prints none done = done_behind more old mid mid t t1 t2 prints none refl done
+
+-- and where it may be done or not
+pub may_behind : (more : List Deed) (old mid : List ℕ) (t t1 t2 : Option (List Deed)) → Prints old mid t t1 → mid ≡ [] → MayDo more t1 t2 → (Prints old mid t t2) ⊎ (PrintsThen more old mid t t2)
+may_behind more old mid t t1 t2 prints none may =
+    elim may [
+      | inl same ↦ inl (prints_same old mid mid t t1 t2 prints refl same)
+      | inr done ↦ inr (done_behind more old mid mid t t1 t2 prints none refl done)
+    ]
 
 -- an image is opened, locked and made
 pub opened_so : (opened : Deed) (locked made : List Deed) (t t1 t2 t3 : Option (List Deed)) → t1 ≡ then_done t (opened ∷ []) → t2 ≡ then_done t1 locked → t3 ≡ then_done t2 made → t3 ≡ then_done t (opened ∷ (locked ++ made))

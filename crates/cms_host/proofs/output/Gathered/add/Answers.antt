@@ -1,10 +1,34 @@
-use Rattle.std.proofs.Common.{◌≡◌, [], rules}
-use Rattle.cms_host.proofs.Printed.{printed_in_the_end}
+use Rattle.std.proofs.Common.{List, ℕ, subst}
+use Rattle.cms_host.specs.Deeds.{Prints}
+use Rattle.cms_host.proofs.Printed.{just_gathered, flushed_gathered, printed_in_the_end, prints_same}
 use Rattle.cms_host.proofs.output.Gathered.add.Goals as goal
+
+pub returns-then-gather-clause-taken : goal.returns-then-gather-clause-taken
+returns-then-gather-clause-taken g c = just_gathered c.args.self.now c.args.from.now c.gather.new.self _ (c.gather.ensures.gathered c.if-gather.true)
+
+pub returns-then-not-flush-clause-failed : goal.returns-then-not-flush-clause-failed
+returns-then-not-flush-clause-failed g c =
+    let prints = subst (λ (bytes : List ℕ). Prints bytes c.flush.new.self (g.S.System.told c.args.system.now) (g.S.System.told c.flush.new.system)) (c.gather.ensures.full c.if-gather.false) c.flush.ensures.prints in
+    λ no. prints
+
+pub returns-then-gather-2-clause-taken : goal.returns-then-gather-2-clause-taken
+returns-then-gather-2-clause-taken g c =
+    let prints = subst (λ (bytes : List ℕ). Prints bytes c.flush.new.self (g.S.System.told c.args.system.now) (g.S.System.told c.flush.new.system)) (c.gather.ensures.full c.if-gather.false) c.flush.ensures.prints in
+    flushed_gathered c.args.self.now c.flush.new.self c.args.from.now c.gather-2.new.self _ _ prints (c.gather-2.ensures.gathered c.if-gather-2.true)
 
 pub returns-clause-taken : goal.returns-clause-taken
 returns-clause-taken g c =
-    let was : c.gather.new.self ≡ c.args.self.now = search rules in
-    let none : c.flush.new.self ≡ [] = search rules in
-    let same : c.gather-2.new.self ≡ c.flush.new.self = search rules in
-    printed_in_the_end c.print.result c.args.self.now c.gather.new.self c.flush.new.self c.args.from.now c.gather-2.new.self (g.S.System.told c.args.system.now) (g.S.System.told c.flush.new.system) (g.S.System.told c.print.new.self) was c.flush.ensures.prints none same c.print.ensures.printed
+    printed_in_the_end c.print.result c.args.self.now c.gather.new.self c.flush.new.self c.args.from.now c.gather-2.new.self (g.S.System.told c.args.system.now) (g.S.System.told c.flush.new.system) (g.S.System.told c.print.new.self)
+    (c.gather.ensures.full c.if-gather.false)
+    c.flush.ensures.prints
+    (c.flush.ensures.all.0 c.if-not-flush.false)
+    (c.gather-2.ensures.full c.if-gather-2.false)
+    c.print.ensures.printed
+
+pub returns-clause-failed : goal.returns-clause-failed
+returns-clause-failed g c =
+    let prints = subst (λ (bytes : List ℕ). Prints bytes c.flush.new.self (g.S.System.told c.args.system.now) (g.S.System.told c.flush.new.system)) (c.gather.ensures.full c.if-gather.false) c.flush.ensures.prints in
+    λ none. prints_same _ _ _ _ _ _ prints (c.gather-2.ensures.full c.if-gather-2.false) (c.print.ensures.failed none)
+
+pub returns-clause-within : goal.returns-clause-within
+returns-clause-within g c = c.print.ensures.within
