@@ -1,10 +1,11 @@
 // Trees that are written while their leaves are, beside those that `build` makes.
-ghost use Rattle.std.specs.Prelude.{◌≡◌, ◌⊎◌, ◌/◌, ◌<◌, ◌≤◌, length, None, IfOk};
+ghost use Rattle.std.specs.Prelude.{◌≡◌, ◌⊎◌, ◌≤◌, length, IfOk};
 
+use crate::plain_world::{PlainWorld, blank, written_once};
 use cms_cases::{number, told, word};
 use cms_journal::BlockSize;
 use cms_tree::{Climb, Mark, build, shape};
-use cms_world::{Access, Failed, Unit, World};
+use cms_world::World;
 use std::alloc::{AllocError, Global};
 
 /// `climb/LEAVES/SIZE`: whether a tree over so many leaves with pointers of this size is written, and as `build` makes it.
@@ -24,79 +25,6 @@ climb/1765/12 => (true, true)
 order => (true, 132, Some([136, 137, 1000000, 138, 1000001, 1000002]))
 fails/128 => (false, 128, 1)
 fails/131 => (false, 131, 1)";
-
-/// A world that tells nothing, and keeps the numbers and bytes of the blocks that are written. One of the writes fails.
-#[derive(Drop)]
-pub struct Paper {
-    pub blocks: Vec<u32>,
-    pub bytes: Vec<u8>,
-    pub reads: usize,
-    failing: usize,
-    failures: u64,
-}
-
-impl World for Paper {
-    ghost faults = { λ w. w.failures };
-
-    ghost edges = { λ w. 0 };
-
-    ghost told = { λ w. None };
-
-    fn attach(&mut self, _name: &str, _bsize: u32, _access: Access) -> Result<Unit, Failed> {
-        Ok(Unit {
-            number: 0,
-            blocks: 0,
-        })
-    }
-
-    fn read_block(&mut self, _unit: u8, block: u32, into: &mut [u8]) -> Result<(), Failed> {
-        self.reads = self.reads.saturating_add(1);
-        if let Some(bytes) = written_once(self, block) {
-            for (to, from) in into.iter_mut().zip(bytes) {
-                *to = *from;
-            }
-        }
-        Ok(())
-    }
-
-    fn write_block(&mut self, _unit: u8, block: u32, from: &[u8]) -> Result<(), Failed> {
-        let fails = self.blocks.len() == self.failing;
-        if fails
-            || self.blocks.push(block).is_err()
-            || self.bytes.extend_from_slice(from).is_err()
-        {
-            self.failures = self.failures.saturating_add(1);
-            return Err(Failed);
-        }
-        Ok(())
-    }
-
-    fn sync(&mut self, _unit: u8) -> Result<(), Failed> {
-        Ok(())
-    }
-
-    fn read(&mut self, _into: &mut [u8]) -> Result<usize, Failed> {
-        Ok(0)
-    }
-
-    fn type_out(&mut self, from: &[u8]) -> Result<usize, Failed> {
-        Ok(from.len())
-    }
-
-    fn now(&mut self) -> Result<i64, Failed> {
-        Ok(0)
-    }
-}
-
-pub fn blank_paper(alloc: Global, failing: usize) -> Paper {
-    Paper {
-        blocks: Vec::new(alloc),
-        bytes: Vec::new(alloc),
-        reads: 0,
-        failing,
-        failures: 0,
-    }
-}
 
 /// The number of the first pointer block; the leaves are numbered from 10.
 pub const FIRST: u32 = 1_000_000;
@@ -134,7 +62,12 @@ pub fn marks(alloc: Global, count: u32) -> Result<Vec<Mark>, AllocError>
 }
 
 /// Writes leaves by the world, and with them the pointer blocks over them; whether all were written.
-pub fn climbs(alloc: Global, world: &mut Paper, leaves: u32, psize: u8) -> Result<bool, AllocError>
+pub fn climbs(
+    alloc: Global,
+    world: &mut PlainWorld<'_>,
+    leaves: u32,
+    psize: u8,
+) -> Result<bool, AllocError>
     requires some { 1 ≤ leaves }
     requires few { leaves ≤ 100000 }
     requires psize { (psize ≡ 4) ⊎ (psize ≡ 12) }
@@ -157,22 +90,13 @@ pub fn climbs(alloc: Global, world: &mut Paper, leaves: u32, psize: u8) -> Resul
     Ok(true)
 }
 
-/// The bytes of a block, where it was written once.
-pub fn written_once(world: &Paper, number: u32) -> Option<&[u8]> {
-    let mut found = None;
-    for (block, bytes) in world.blocks.iter().zip(world.bytes.chunks(512)) {
-        if *block == number {
-            if found.is_some() {
-                return None;
-            }
-            found = Some(bytes);
-        }
-    }
-    found
-}
-
 // Whether the world holds, between the leaves, each pointer block once and as `build` makes it.
-fn holds_them(alloc: Global, world: &Paper, leaves: u32, psize: u8) -> Result<bool, AllocError>
+fn holds_them(
+    alloc: Global,
+    world: &PlainWorld<'_>,
+    leaves: u32,
+    psize: u8,
+) -> Result<bool, AllocError>
     requires some { 1 ≤ leaves }
     requires few { leaves ≤ 100000 }
     requires psize { (psize ≡ 4) ⊎ (psize ≡ 12) }
@@ -209,13 +133,13 @@ fn climb(alloc: Global, leaves: u32, is_wide: bool) -> Result<String, AllocError
     if leaves < 1 || leaves > 100_000 {
         return told(alloc, &"no tree");
     }
-    let mut world = blank_paper(alloc, usize::MAX);
+    let mut world = blank(alloc, usize::MAX);
     let climbs = climbs(alloc, &mut world, leaves, psize)?;
     told(alloc, &(climbs, holds_them(alloc, &world, leaves, psize)?))
 }
 
 fn order(alloc: Global) -> Result<String, AllocError> {
-    let mut world = blank_paper(alloc, usize::MAX);
+    let mut world = blank(alloc, usize::MAX);
     let climbs = climbs(alloc, &mut world, 129, 4)?;
     told(
         alloc,
@@ -224,7 +148,7 @@ fn order(alloc: Global) -> Result<String, AllocError> {
 }
 
 fn fails(alloc: Global, failing: u32) -> Result<String, AllocError> {
-    let mut world = blank_paper(alloc, failing as usize);
+    let mut world = blank(alloc, failing as usize);
     let climbs = climbs(alloc, &mut world, 129, 4)?;
     told(alloc, &(climbs, world.blocks.len(), world.failures))
 }

@@ -51,15 +51,17 @@ fn deck_of(alloc: Global, text: &[u8], count: u8) -> Result<Deck, AllocError> {
 
 // The text of a file A FILE A1 of 1900-01-01 00:00:02, with one record of F of so many letters.
 fn fixed(alloc: Global, size: u32) -> Result<Vec<u8>, AllocError> {
-    let mut text = NAME.to_vec(alloc)?;
-    text.extend_from_slice(&[0xF1, 0xC6])?;
-    text.extend_from_slice(&size.to_be_bytes())?;
-    text.extend_from_slice(&[0, 0, 0, 1])?;
-    text.extend_from_slice(&size.to_be_bytes())?;
-    text.extend_from_slice(&[0, 1, 1, 0, 0, 2, 0])?;
-    for _letter in 0..size {
-        text.push(0xE7)?;
-    }
+    let length = size.to_be_bytes();
+    let head: [&[u8]; 6] = [
+        &NAME,
+        &[0xF1, 0xC6],
+        &length,
+        &[0, 0, 0, 1],
+        &length,
+        &[0, 1, 1, 0, 0, 2, 0],
+    ];
+    let mut text = head.concat(alloc)?;
+    text.resize(text.len().saturating_add(size as usize), 0xE7)?;
     Ok(text)
 }
 
@@ -71,38 +73,41 @@ fn fixed_told(alloc: Global, case: &str) -> Result<String, AllocError> {
     told(alloc, &file)
 }
 
-// The one card of a file A FILE A1 of 1900-01-01 00:00:02, with the record HELLO of V.
-fn hello(alloc: Global) -> Result<Card, AllocError> {
-    let mut text = NAME.to_vec(alloc)?;
-    text.extend_from_slice(&[0xF1, 0xE5, 0, 0, 0, 5, 0, 0, 0, 1, 0, 0, 0, 7])?;
-    text.extend_from_slice(&[0, 1, 1, 0, 0, 2, 0])?;
-    text.extend_from_slice(&[0, 5, 0xC8, 0xC5, 0xD3, 0xD3, 0xD6])?;
-    Ok(card(0, &text))
-}
+// The text of a file A FILE A1 of 1900-01-01 00:00:02, with the record HELLO of V.
+const HELLO: [u8; 44] = [
+    0xC1, 0x40, 0x40, 0x40, 0x40, 0x40, 0x40, 0x40, 0xC6, 0xC9, 0xD3, 0xC5, 0x40, 0x40, 0x40, 0x40,
+    0xF1, 0xE5, 0, 0, 0, 5, 0, 0, 0, 1, 0, 0, 0, 7, 0, 1, 1, 0, 0, 2, 0, 0, 5, 0xC8, 0xC5, 0xD3,
+    0xD3, 0xD6,
+];
 
-// Whether a file is read from a deck, and whether its dump is that deck.
-fn is_read(alloc: Global, deck: &Deck) -> Result<(bool, bool), AllocError> {
-    let Some((name, file)) = read_deck(alloc, deck)? else {
+// Whether a file is read from a deck of this card, and whether its dump is that deck.
+fn is_read(alloc: Global, card: Card) -> Result<(bool, bool), AllocError> {
+    let mut deck = Deck::new(alloc);
+    deck.push(card)?;
+    let Some((name, file)) = read_deck(alloc, &deck)? else {
         return Ok((false, false));
     };
     let again = write_deck(alloc, &file, &name)?;
     Ok((true, again.as_slice() == deck.as_slice()))
 }
 
-// The places of a card at which another byte makes it the dump of another file; or those where that file's dump is the changed card.
-fn places(alloc: Global, dumped: bool) -> Result<Vec<usize>, AllocError> {
-    let card = hello(alloc)?;
-    let mut places = Vec::new(alloc);
+// Adds the places of a card at which another byte makes it the dump of another file; or those where that file's dump is the changed card.
+fn push_places(into: &mut Vec<usize>, alloc: Global, dumped: bool) -> Result<(), AllocError> {
     for place in 0..CARD {
-        let mut changed = card;
+        let mut changed = card(0, &HELLO);
         changed[place] ^= 1;
-        let mut deck = Deck::new(alloc);
-        deck.push(changed)?;
-        let (read, same) = is_read(alloc, &deck)?;
+        let (read, same) = is_read(alloc, changed)?;
         if read && (same || !dumped) {
-            places.push(place)?;
+            into.push(place)?;
         }
     }
+    Ok(())
+}
+
+// These places.
+fn places(alloc: Global, dumped: bool) -> Result<Vec<usize>, AllocError> {
+    let mut places = Vec::new(alloc);
+    push_places(&mut places, alloc, dumped)?;
     Ok(places)
 }
 

@@ -28,6 +28,8 @@ mod operands;
 #[cfg(test)]
 mod pieces;
 #[cfg(test)]
+mod plain_world;
+#[cfg(test)]
 mod records;
 #[cfg(test)]
 mod resumes;

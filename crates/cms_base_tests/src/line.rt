@@ -3,7 +3,6 @@ mod cases;
 mod consoles;
 mod messages;
 mod options;
-mod pieces;
 mod stacks;
 mod typed_lines;
 mod words;

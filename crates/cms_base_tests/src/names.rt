@@ -1,5 +1,5 @@
 // Words and what they spell, as the manuals' examples and the product's own rules have them.
-use cms_cases::{ascii, byte, told, word};
+use cms_cases::{Ascii, byte, told, word};
 use cms_names::{ModeWord, Name, NameFault, OutId, Part, Pattern, equal_signs, is_name_character};
 use cms_text::{ebcdic, without_trailing_blanks};
 use std::alloc::{AllocError, Global};
@@ -84,7 +84,7 @@ output/==/ => BadChar(0)";
 // What a word is as a part.
 fn part(alloc: Global, text: &[u8]) -> Result<String, AllocError> {
     match Part::read(text) {
-        Ok(part) => ascii(alloc, part.as_bytes()),
+        Ok(part) => format!(in alloc; "{}", Ascii(part.as_bytes())),
         Err(fault) => told(alloc, &fault),
     }
 }
@@ -122,10 +122,10 @@ fn parts(name: &Name) -> [u8; 16] {
 // The name that an output makes of the name A B, as it is written.
 fn made(alloc: Global, to: &OutId) -> Result<String, AllocError> {
     match name() {
-        Ok(from) => ascii(
-            alloc,
-            without_trailing_blanks(&parts(&equal_signs(&from, to))),
-        ),
+        Ok(from) => {
+            let parts = parts(&equal_signs(&from, to));
+            format!(in alloc; "{}", Ascii(without_trailing_blanks(&parts)))
+        }
         Err(fault) => told(alloc, &fault),
     }
 }

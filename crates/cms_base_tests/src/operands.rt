@@ -1,6 +1,6 @@
 // Lines of a command with a name, a mode and a number, and what is typed where they are refused; written by hand from the manual's
 // order of refusals.
-use cms_cases::{ascii, told};
+use cms_cases::{Ascii, told};
 use cms_commands::command_named;
 use cms_line::{Line, Message, Tokens, tokens, write_message};
 use cms_operands::{
@@ -130,7 +130,7 @@ fn read(alloc: Global, words: &Tokens) -> Result<ChosenOptions<LineOption>, Comm
 fn text_of(alloc: Global, message: &Message) -> Result<String, AllocError> {
     let mut text = Vec::new(alloc);
     write_message(&mut text, message)?;
-    ascii(alloc, &text)
+    format!(in alloc; "{}", Ascii(&text))
 }
 
 // What is typed.

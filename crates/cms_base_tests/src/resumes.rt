@@ -2,7 +2,8 @@
 ghost use Rattle.std.specs.Prelude.{◌≡◌, ◌⊎◌, ◌/◌, ◌<◌, ◌≤◌, length};
 ghost use Rattle.cms_model.specs.Sizes.{pointer_count};
 
-use super::climbs::{FIRST, Paper, blank_paper, climbs, mark_of, marks, numbers, written_once};
+use crate::climbs::{FIRST, climbs, mark_of, marks, numbers};
+use crate::plain_world::{PlainWorld, blank, written_once};
 use cms_cases::{number, told, word};
 use cms_journal::BlockSize;
 use cms_tree::{Climb, build, shape};
@@ -66,7 +67,7 @@ fn numbers_after(alloc: Global, trees: &Resumed) -> Result<Vec<u32>, AllocError>
 // Goes on with the tree that stands, and writes the leaves that aren't kept; whether all were written.
 fn resume(
     alloc: Global,
-    world: &mut Paper,
+    world: &mut PlainWorld<'_>,
     trees: &Resumed,
     fresh: &[u32],
 ) -> Result<bool, AllocError>
@@ -110,7 +111,7 @@ fn resume(
 // Whether the world holds each new pointer block once and as `build` makes it, and no other.
 fn holds_new(
     alloc: Global,
-    world: &Paper,
+    world: &PlainWorld<'_>,
     trees: &Resumed,
     fresh: &[u32],
     written: usize,
@@ -166,7 +167,7 @@ pub fn answer(alloc: Global, case: &str) -> Result<String, AllocError> {
     if fresh.len() < count as usize {
         return told(alloc, &"no numbers");
     }
-    let mut world = blank_paper(alloc, usize::MAX);
+    let mut world = blank(alloc, usize::MAX);
     climbs(alloc, &mut world, trees.before, trees.psize)?;
     let written = world.blocks.len();
     let resumes = resume(alloc, &mut world, &trees, &fresh)?;

@@ -147,10 +147,17 @@ fn read(alloc: Global, world: &mut MemWorld, at: &TreeAt) -> Result<String, Allo
     )
 }
 
-fn tree(alloc: Global, case: &str) -> Result<String, AllocError> {
+// A world with the image, of whose calls one fails.
+fn world_with(alloc: Global, failing: u32) -> Result<MemWorld, AllocError> {
+    let image = tree_image(alloc)?;
     let mut world = MemWorld::new(alloc, b"", 0)?;
-    world.add_image("T", &tree_image(alloc)?)?;
-    world.fail_at(number(word(case, 4)), false)?;
+    world.add_image("T", &image)?;
+    world.fail_at(failing, false)?;
+    Ok(world)
+}
+
+fn tree(alloc: Global, case: &str) -> Result<String, AllocError> {
+    let mut world = world_with(alloc, number(word(case, 4)))?;
     let count = number(word(case, 2));
     match attach(&mut world) {
         Some(unit) if count >= 1 => {

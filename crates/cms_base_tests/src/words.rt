@@ -166,19 +166,23 @@ fn argv(alloc: Global, case: &str) -> Result<Argv, AllocError> {
     Ok(words)
 }
 
-fn unit(alloc: Global, unit: &UnitWord) -> Result<String, AllocError> {
-    let name = unit.name.text();
-    let bsize = unit.bsize.bytes();
-    format!(in alloc; " {:03X},{bsize},{:?},{name}", unit.vdev, unit.access)
+fn push_unit(into: &mut String, unit: &UnitWord) -> Result<(), AllocError> {
+    let (bsize, name) = (unit.bsize.bytes(), unit.name.text());
+    write!(into, " {:03X},{bsize},{:?},{name}", unit.vdev, unit.access)
+}
+
+fn push_units(into: &mut String, words: &Words) -> Result<(), AllocError> {
+    for place in 0..words.units.len() {
+        if let Some(word) = words.units.get(place) {
+            push_unit(into, word)?;
+        }
+    }
+    Ok(())
 }
 
 fn values(alloc: Global, words: &Words) -> Result<String, AllocError> {
     let mut text = told(alloc, &(words.turns, words.offset, words.seed))?;
-    for place in 0..words.units.len() {
-        if let Some(word) = words.units.get(place) {
-            text.push_str(unit(alloc, word)?.as_str())?;
-        }
-    }
+    push_units(&mut text, words)?;
     Ok(text)
 }
 

@@ -7,5 +7,5 @@ mod values;
 mod words;
 
 pub use rows::{Subject, try_rows};
-pub use values::{ascii, push_ascii, told};
+pub use values::{Ascii, told};
 pub use words::{byte, bytes_of, number, word, written_out};

@@ -1,6 +1,7 @@
 // How values are told.
 use cms_ebcdic::to_host;
 use std::alloc::{AllocError, Global};
+use std::fmt;
 use std::fmt::Debug;
 
 /// A value as tests tell it.
@@ -8,17 +9,15 @@ pub fn told<T: Debug>(alloc: Global, value: &T) -> Result<String, AllocError> {
     format!(in alloc; "{value:?}")
 }
 
-/// Adds bytes of EBCDIC in ASCII.
-pub fn push_ascii(into: &mut String, bytes: &[u8]) -> Result<(), AllocError> {
-    for byte in bytes {
-        into.push(char::from(to_host(*byte)))?;
-    }
-    Ok(())
-}
+/// Bytes of EBCDIC, which are printed in ASCII.
+#[derive(Clone, Copy)]
+pub struct Ascii<'a>(pub &'a [u8]);
 
-/// A text of EBCDIC in ASCII.
-pub fn ascii(alloc: Global, bytes: &[u8]) -> Result<String, AllocError> {
-    let mut text = String::new(alloc);
-    push_ascii(&mut text, bytes)?;
-    Ok(text)
+impl fmt::Display for Ascii<'_> {
+    fn fmt<W: fmt::Write>(&self, f: &mut fmt::Formatter<W>) -> fmt::Result {
+        for byte in self.0 {
+            f.write_char(char::from(to_host(*byte)))?;
+        }
+        Ok(())
+    }
 }

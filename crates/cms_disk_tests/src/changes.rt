@@ -193,9 +193,8 @@ fn bytes_of(alloc: Global, world: &MemWorld) -> Result<&'static str, AllocError>
 
 // The free blocks, the calls, and how the bytes are.
 fn seen(alloc: Global, world: &MemWorld, disk: &Minidisk) -> Result<String, AllocError> {
-    let calls = calls_of(alloc, world)?;
     let bytes = bytes_of(alloc, world)?;
-    format!(in alloc; "{} {calls} {bytes}", disk.space().free)
+    format!(in alloc; "{} {} {bytes}", disk.space().free, calls_of(world))
 }
 
 // The files, the events, and the files of what is left.

@@ -1,6 +1,6 @@
 // Empty minidisks that are made on the units of a world in memory.
 use crate::disk::{info_of, minidisk};
-use cms_cases::{number, told, word};
+use cms_cases::{number, word};
 use cms_disk::{DiskFault, Minidisk};
 use cms_images::{Made, NOON, formatted, image_left, image_named, world_of, world_with};
 use cms_world::{Access, MemWorld, World};
@@ -40,24 +40,24 @@ fn make_on(alloc: Global, world: &mut MemWorld) -> Option<Result<Minidisk, DiskF
     Some(Minidisk::make(alloc, world, &info, TEST01, &NOON))
 }
 
-// The files and the free blocks.
-fn counts(alloc: Global, disk: &Minidisk) -> Result<String, AllocError> {
-    told(alloc, &(disk.count(), disk.space().free))
+// Adds the files and the free blocks of a minidisk.
+fn push_counts(into: &mut String, disk: &Minidisk) -> Result<(), AllocError> {
+    write!(into, "{:?}", (disk.count(), disk.space().free))
 }
 
-fn made(alloc: Global, world: &mut MemWorld) -> Result<String, AllocError> {
+fn push_made(into: &mut String, alloc: Global, world: &mut MemWorld) -> Result<(), AllocError> {
     match make_on(alloc, world) {
-        Some(Ok(disk)) => counts(alloc, &disk),
-        Some(Err(fault)) => told(alloc, &fault),
-        None => String::from_str(alloc, "no unit"),
+        Some(Ok(disk)) => push_counts(into, &disk),
+        Some(Err(fault)) => write!(into, "{fault:?}"),
+        None => into.push_str("no unit"),
     }
 }
 
-// What is accessed in an image.
-fn accessed(alloc: Global, image: Vec<u8>) -> Result<String, AllocError> {
+// Adds what is accessed in an image.
+fn push_accessed(into: &mut String, alloc: Global, image: Vec<u8>) -> Result<(), AllocError> {
     match minidisk(alloc, &mut world_of(image), Access::ReadOnly) {
-        Ok(disk) => counts(alloc, &disk),
-        Err(fault) => told(alloc, &fault),
+        Ok(disk) => push_counts(into, &disk),
+        Err(fault) => write!(into, "{fault:?}"),
     }
 }
 
@@ -77,12 +77,11 @@ fn bytes_of(alloc: Global, image: &[u8]) -> Result<&'static str, AllocError> {
     }
 }
 
-// Whether what is left of the first unit of a world is such an image, and what is accessed in it.
-fn left(alloc: Global, world: &MemWorld) -> Result<String, AllocError> {
+// Adds whether what is left of the first unit of a world is such an image, and what is accessed in it.
+fn push_left(into: &mut String, alloc: Global, world: &MemWorld) -> Result<(), AllocError> {
     let image = image_left(alloc, world, world.events(), u64::MAX)?;
-    let bytes = bytes_of(alloc, &image)?;
-    let accessed = accessed(alloc, image)?;
-    format!(in alloc; "{bytes}, {accessed}")
+    write!(into, ", {}, ", bytes_of(alloc, &image)?)?;
+    push_accessed(into, alloc, image)
 }
 
 // The world of a case.
@@ -95,7 +94,8 @@ fn world_of_case(alloc: Global, case: &str) -> Result<MemWorld, AllocError> {
 /// What a case comes to.
 pub fn answer(alloc: Global, case: &str) -> Result<String, AllocError> {
     let mut world = world_of_case(alloc, case)?;
-    let made = made(alloc, &mut world)?;
-    let left = left(alloc, &world)?;
-    format!(in alloc; "{made}, {left}")
+    let mut told = String::new(alloc);
+    push_made(&mut told, alloc, &mut world)?;
+    push_left(&mut told, alloc, &world)?;
+    Ok(told)
 }

@@ -3,6 +3,7 @@ ghost use Rattle.std.specs.Prelude.{◌≡◌, ◌⊎◌};
 
 use cms_cases::number;
 use cms_images::known::{put, put_number};
+use cms_images::{DIRECTORY, Entry, MAP, put_entry};
 use std::alloc::{AllocError, Global};
 
 const SIZE: usize = 512;
@@ -96,6 +97,18 @@ impl Filed {
     }
 }
 
+impl Filed {
+    // Adds the records of a length, which perhaps has with it how many have it, as `512*300`.
+    fn add_part(&mut self, part: &str) -> Result<(), AllocError> {
+        let (length, times) = part.split_once('*').unwrap_or((part, "1"));
+        let length = number(length);
+        for _ in 0..number(times) {
+            self.add(length)?;
+        }
+        Ok(())
+    }
+}
+
 // The file of a text: its format, and the lengths of its records, each perhaps with how many have it, as `F 512*300` or `V 509 3`.
 fn read_file(alloc: Global, text: &str) -> Result<Filed, AllocError> {
     let mut file = Filed {
@@ -105,12 +118,7 @@ fn read_file(alloc: Global, text: &str) -> Result<Filed, AllocError> {
         longest: 0,
     };
     for part in text.split(' ').skip(1) {
-        let mut words = part.split('*');
-        let length = number(words.next().unwrap_or(""));
-        let times = number(words.next().unwrap_or("1"));
-        for _ in 0..times {
-            file.add(length)?;
-        }
+        file.add_part(part)?;
     }
     Ok(file)
 }
@@ -163,6 +171,17 @@ impl Paper {
         above
     }
 
+    // Puts the pointer blocks over some blocks, and gives the pointers to them.
+    fn level(&mut self, below: &[Cell], size: usize) -> Result<Vec<Cell>, AllocError>
+        requires { (size ≡ 4) ⊎ (size ≡ 12) }
+    {
+        let mut above = Vec::new(self.alloc);
+        for group in below.chunks(SIZE / size) {
+            above.push(self.node(group, size))?;
+        }
+        Ok(above)
+    }
+
     // Puts the pointer blocks over the data blocks of a tree, the lowest level first.
     fn hang(&mut self, leaves: &[Cell], is_wide: bool) -> Result<Tree, AllocError> {
         let size = pointer_size(is_wide);
@@ -170,11 +189,7 @@ impl Paper {
         let mut levels = 0u8;
         for _ in 0..4 {
             if below.len() > 1 {
-                let mut above = Vec::new(self.alloc);
-                for group in below.chunks(SIZE / size) {
-                    above.push(self.node(group, size))?;
-                }
-                below = above;
+                below = self.level(&below, size)?;
                 levels = levels.saturating_add(1);
             }
         }
@@ -208,23 +223,44 @@ impl Paper {
     }
 
     // Puts an entry into the directory's data blocks by its number.
-    fn put_entry(&mut self, leaves: &[Cell], nth: usize, row: &Row) {
+    fn put_row(&mut self, leaves: &[Cell], nth: usize, row: &Row) {
         let Some(cell) = leaves.get(nth / 8) else {
             return;
         };
-        let (block, at) = (cell.block as usize, nth % 8 * 64);
-        let image = self.image.as_mut_slice();
-        put(image, block, at, &row.name);
-        put(image, block, at + 24, &[0xC1, 0xF1]);
-        let format = if row.is_wide { 0xE5 } else { 0xC6 };
-        put(image, block, at + 30, &[format, 0x08]);
-        put_number(image, block, at + 32, row.length);
-        put_number(image, block, at + 40, row.tree.root);
-        put_number(image, block, at + 44, row.tree.blocks);
-        put_number(image, block, at + 48, row.records);
-        let size = if row.is_wide { 12 } else { 4 };
-        let rest = [row.tree.levels, size, 0x00, 0x01, 0x01, 0x00, 0x00, 0x00];
-        put(image, block, at + 52, &rest);
+        let start = (cell.block as usize).saturating_sub(1).saturating_mul(SIZE);
+        let at = start.saturating_add(nth % 8 * 64);
+        put_entry(self.image.as_mut_slice(), at, &entry_of(row));
+    }
+
+    // Puts a file of a place, as its text says it.
+    fn put_text(&mut self, listing: &[Cell], place: usize, text: &str) -> Result<(), AllocError> {
+        let file = read_file(self.alloc, text)?;
+        let row = self.put_file(short(place), &file)?;
+        self.put_row(listing, place.saturating_add(2), &row);
+        Ok(())
+    }
+
+    // Puts files, as their texts say them.
+    fn put_files(&mut self, listing: &[Cell], files: &str) -> Result<(), AllocError> {
+        for (place, text) in files.split(", ").enumerate() {
+            self.put_text(listing, place, text)?;
+        }
+        Ok(())
+    }
+
+    // Puts all that a volume of so many blocks with these files has.
+    fn put_all(&mut self, blocks: u32, files: &str) -> Result<(), AllocError> {
+        let count = short(files.split(", ").count()).saturating_add(2);
+        let map = self.take_all(None, blocks.div_ceil(4096))?;
+        let map_tree = self.hang(&map, false)?;
+        let listing = self.take_all(Some(4), count.div_ceil(8))?;
+        let listing_tree = self.hang(&listing, false)?;
+        self.put_row(&listing, 0, &own_row(DIRECTORY, 64, count, listing_tree));
+        self.put_row(&listing, 1, &own_row(MAP, 512, map_tree.blocks, map_tree));
+        self.put_files(&listing, files)?;
+        self.put_marks(&map);
+        self.put_label(blocks);
+        Ok(())
     }
 
     // Marks the blocks that were taken, from block 6 on, and the first five.
@@ -277,13 +313,20 @@ fn name_of(place: u32) -> [u8; 16] {
     ]
 }
 
-const DIRECTOR: [u8; 16] = [
-    0, 0, 0, 1, 0, 0, 0, 0, 0xC4, 0xC9, 0xD9, 0xC5, 0xC3, 0xE3, 0xD6, 0xD9,
-];
-
-const ALLOCMAP: [u8; 16] = [
-    0, 0, 0, 2, 0, 0, 0, 0, 0xC1, 0xD3, 0xD3, 0xD6, 0xC3, 0xD4, 0xC1, 0xD7,
-];
+// The entry of a row, of the first second of 2000.
+fn entry_of(row: &Row) -> Entry {
+    let (format, size) = if row.is_wide { (0xE5, 12) } else { (0xC6, 4) };
+    Entry {
+        name: row.name,
+        format: [format, 0x08],
+        length: row.length,
+        root: row.tree.root,
+        blocks: row.tree.blocks,
+        records: row.records,
+        levels: [row.tree.levels, size],
+        stamp: [0x00, 0x01, 0x01, 0x00, 0x00, 0x00],
+    }
+}
 
 // The entries of the directory and of the map.
 fn own_row(name: [u8; 16], length: u32, records: u32, tree: Tree) -> Row {
@@ -304,23 +347,6 @@ pub fn volume_of(alloc: Global, blocks: u32, files: &str) -> Result<Vec<u8>, All
         image: vec![in alloc; 0; (blocks as usize).saturating_mul(SIZE)]?,
         next: 6,
     };
-    let count = short(files.split(", ").count()).saturating_add(2);
-    let map = paper.take_all(None, blocks.div_ceil(4096))?;
-    let map_tree = paper.hang(&map, false)?;
-    let listing = paper.take_all(Some(4), count.div_ceil(8))?;
-    let listing_tree = paper.hang(&listing, false)?;
-    paper.put_entry(&listing, 0, &own_row(DIRECTOR, 64, count, listing_tree));
-    paper.put_entry(
-        &listing,
-        1,
-        &own_row(ALLOCMAP, 512, map_tree.blocks, map_tree),
-    );
-    for (place, text) in files.split(", ").enumerate() {
-        let file = read_file(alloc, text)?;
-        let row = paper.put_file(short(place), &file)?;
-        paper.put_entry(&listing, place.saturating_add(2), &row);
-    }
-    paper.put_marks(&map);
-    paper.put_label(blocks);
+    paper.put_all(blocks, files)?;
     Ok(paper.image)
 }

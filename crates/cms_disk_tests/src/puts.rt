@@ -6,7 +6,6 @@ use crate::disk::{access_of, letters, minidisk};
 use cms_cases::{told, word};
 use cms_disk::{DiskFault, FileData, Minidisk, Stored};
 use cms_fields::Stamp;
-use cms_images::known::one_file;
 use cms_images::{Disk, Event, START, file_named, image_named, world_of};
 use cms_names::{Format, Name};
 use cms_world::Access;
@@ -45,7 +44,7 @@ fn hello(alloc: Global) -> Option<FileData>
     ensures valid { IfSome result IsValid }
 {
     let name = file_named("A")?;
-    let mut world = world_of(one_file(alloc).ok()?);
+    let mut world = world_of(image_named(alloc, "one file").ok()?);
     let disk = minidisk(alloc, &mut world, Access::ReadOnly).ok()?;
     match disk.get(alloc, &mut world, &name) {
         Ok(file) => Some(file),
@@ -155,7 +154,7 @@ fn counts(
 
 // Whether the image is that of A FILE as a system would put it.
 fn is_one_file(alloc: Global, world: &Disk) -> Result<bool, AllocError> {
-    Ok(world.image == one_file(alloc)?)
+    Ok(world.image == image_named(alloc, "one file")?)
 }
 
 // What is told of a minidisk behind an answer.

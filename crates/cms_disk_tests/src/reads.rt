@@ -3,7 +3,7 @@ use crate::disk::{info_of, letters, minidisk};
 use cms_cases::{number, told, word};
 use cms_disk::{AccessFault, Cursor, DiskFault, FileData, Minidisk};
 use cms_ebcdic::to_host;
-use cms_images::known::{one_file, put, spanning};
+use cms_images::known::put;
 use cms_images::{
     Disk, Edit, calls_of, file_named, image_named, put_edits, put_texts, world_of, world_with,
 };
@@ -100,7 +100,7 @@ fn lengths(
 
 // What comes of V FILE.
 fn records(alloc: Global, case: &str) -> Result<String, AllocError> {
-    let mut world = world_of(spanning(alloc)?);
+    let mut world = world_of(image_named(alloc, "spanning")?);
     world.failing = number(word(case, 1)) as usize;
     world.altering = number(word(case, 2)) as usize;
     match cursor_on(alloc, &mut world) {
@@ -121,7 +121,7 @@ const FIXED: &[Edit] = &[
 
 // A volume with such a file; each record is one digit, 100 times.
 fn digits(alloc: Global) -> Result<Vec<u8>, AllocError> {
-    let mut image = spanning(alloc)?;
+    let mut image = image_named(alloc, "spanning")?;
     put_edits(image.as_mut_slice(), FIXED);
     for place in 0..1_000 {
         put(
@@ -303,10 +303,9 @@ fn access_in_doubt(alloc: Global, world: &mut MemWorld) -> Option<AccessFault> {
 
 // What comes of an access in doubt.
 fn doubt(alloc: Global, failing: u32) -> Result<String, AllocError> {
-    let mut world = world_with(alloc, &one_file(alloc)?, failing, false)?;
+    let mut world = world_with(alloc, &image_named(alloc, "one file")?, failing, false)?;
     let fault = access_in_doubt(alloc, &mut world);
-    let calls = calls_of(alloc, &world)?;
-    format!(in alloc; "{fault:?} {calls} {}", world.events())
+    format!(in alloc; "{fault:?} {} {}", calls_of(&world), world.events())
 }
 
 /// What a case comes to.

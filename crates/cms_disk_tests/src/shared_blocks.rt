@@ -249,38 +249,41 @@ fn change(
     })
 }
 
-// The blocks from one to another.
-fn push_run(alloc: Global, into: &mut String, first: u32, last: u32) -> Result<(), AllocError> {
-    if first == last {
-        into.push_str(&format!(in alloc; " {first}")?)
+// Adds the blocks from one to another; there are none where that is 0.
+fn push_run(into: &mut String, first: u32, last: u32) -> Result<(), AllocError> {
+    if last == 0 {
+        Ok(())
+    } else if first == last {
+        write!(into, " {first}")
     } else {
-        into.push_str(&format!(in alloc; " {first}-{last}")?)
+        write!(into, " {first}-{last}")
     }
 }
 
+// The blocks that follow one another up to this one. If it doesn't follow them they are added, and `s` where it is 0, a sync.
+fn next_run(
+    into: &mut String,
+    (first, last): (u32, u32),
+    block: u32,
+) -> Result<(u32, u32), AllocError> {
+    if last > 0 && block == last.saturating_add(1) {
+        return Ok((first, block));
+    }
+    push_run(into, first, last)?;
+    into.push_str(if block == 0 { " s" } else { "" })?;
+    Ok((block, block))
+}
+
 // The blocks that were written, in order, with `s` for each sync; those that follow one another as the first and the last.
-fn written(alloc: Global, world: &Disk) -> Result<String, AllocError> {
+fn written(alloc: Global, events: &[Event]) -> Result<String, AllocError> {
     let mut text = String::new(alloc);
-    let mut run: Option<(u32, u32)> = None;
-    for event in world.events() {
+    let mut run = (0, 0);
+    for event in events {
         let block = match event {
-            Event::Wrote { block, .. } => Some(*block),
-            Event::Synced => None,
+            Event::Wrote { block, .. } => *block,
+            Event::Synced => 0,
         };
-        run = match (run, block) {
-            (Some((first, last)), Some(block)) if block == last.saturating_add(1) => {
-                Some((first, block))
-            }
-            (run, block) => {
-                if let Some((first, last)) = run {
-                    push_run(alloc, &mut text, first, last)?;
-                }
-                if block.is_none() {
-                    text.push_str(" s")?;
-                }
-                block.map(|block| (block, block))
-            }
-        };
+        run = next_run(&mut text, run, block)?;
     }
     Ok(text)
 }
@@ -300,29 +303,53 @@ fn state(alloc: Global, image: Vec<u8>) -> Result<String, AllocError> {
 // From so many bytes on only the crashes are looked at that come with the label's write.
 const LARGE: usize = 400 * 512;
 
-// Whether each crash leaves what stood before, or once the label is written what stands then.
-fn left(alloc: Global, world: &Disk) -> Result<String, AllocError> {
+// Whether a crash behind so many events, with all that was written or no more than what was synced, leaves what is wanted.
+fn is_left(
+    alloc: Global,
+    world: &Disk,
+    at: usize,
+    all: bool,
+    wanted: &str,
+) -> Result<bool, AllocError> {
+    Ok(state(alloc, world.crash(alloc, at, all)?)?.as_str() == wanted)
+}
+
+// Adds whether each crash from so many events on leaves what stood before, or once the label is written what stands then.
+fn push_crashes(
+    into: &mut String,
+    alloc: Global,
+    world: &Disk,
+    first: usize,
+    (old, new): (&str, &str),
+) -> Result<(), AllocError> {
     let count = world.events().len();
-    let old = state(alloc, world.crash(alloc, 0, false)?)?;
-    if count == 0 {
-        return String::from_str(alloc, "old");
-    }
-    let new = state(alloc, world.image.to_vec(alloc)?)?;
-    let first = if world.image.len() > LARGE {
-        count.saturating_sub(1)
-    } else {
-        0
-    };
     for at in first..count.saturating_add(1) {
-        for all in [false, true] {
-            let is_new = at == count || all && at.saturating_add(1) == count;
-            let wanted = if is_new { new.as_str() } else { old.as_str() };
-            if state(alloc, world.crash(alloc, at, all)?)?.as_str() != wanted {
-                return format!(in alloc; "behind {at} {all} neither {old} nor {new}");
-            }
+        let synced = if at == count { new } else { old };
+        let written = if at.saturating_add(1) >= count {
+            new
+        } else {
+            old
+        };
+        if !is_left(alloc, world, at, false, synced)?
+            || !is_left(alloc, world, at, true, written)?
+        {
+            return write!(into, "behind {at} neither {old} nor {new}");
         }
     }
-    String::from_str(alloc, "old or new")
+    into.push_str("old or new")
+}
+
+// The same from the first event on, or in a large image from the one before the last.
+fn push_left(into: &mut String, alloc: Global, world: &Disk) -> Result<(), AllocError> {
+    let count = world.events().len();
+    if count == 0 {
+        return into.push_str("old");
+    }
+    let old = state(alloc, world.crash(alloc, 0, false)?)?;
+    let new = state(alloc, world.image.to_vec(alloc)?)?;
+    let is_large = world.image.len() > LARGE;
+    let first = if is_large { count.saturating_sub(1) } else { 0 };
+    push_crashes(into, alloc, world, first, (old.as_str(), new.as_str()))
 }
 
 // So many bytes that stand at a place of a block.
@@ -338,7 +365,42 @@ fn bytes_at<'a>(image: &'a [u8], text: &str) -> &'a [u8] {
     image.get(start..start.saturating_add(count)).unwrap_or(&[])
 }
 
-// What is told of an update.
+// Adds the answer, how many blocks were read, those that were written, and how many are free.
+fn push_front(
+    into: &mut String,
+    alloc: Global,
+    world: &Disk,
+    disk: &Minidisk,
+    done: &Done,
+) -> Result<(), AllocError> {
+    let blocks = written(alloc, world.events())?;
+    let comma = if blocks.is_empty() { "" } else { "," };
+    let (answer, reads, free) = (&done.answer, done.reads, disk.space().free);
+    let other = if done.is_whole { "" } else { ", other bytes" };
+    write!(
+        into,
+        "{answer:?} {reads} read{comma}{blocks}, {free} free{other}, "
+    )
+}
+
+// Adds what is told of an update.
+fn push_done(
+    into: &mut String,
+    alloc: Global,
+    world: &Disk,
+    disk: &Minidisk,
+    done: &Done,
+    look: &str,
+) -> Result<(), AllocError> {
+    push_front(into, alloc, world, disk, done)?;
+    push_left(into, alloc, world)?;
+    if look.is_empty() {
+        return Ok(());
+    }
+    write!(into, ", {:?}", bytes_at(&world.image, look))
+}
+
+// The same alone.
 fn told_of(
     alloc: Global,
     world: &Disk,
@@ -346,21 +408,9 @@ fn told_of(
     done: &Done,
     case: &str,
 ) -> Result<String, AllocError> {
-    let blocks = written(alloc, world)?;
-    let comma = if blocks.is_empty() { "" } else { "," };
-    let other = if done.is_whole { "" } else { "other bytes, " };
-    let free = disk.space().free;
-    let left = left(alloc, world)?;
-    let (answer, reads) = (&done.answer, done.reads);
-    let front = format!(in alloc; "{answer:?} {reads} read{comma}{blocks}, {free} free")?;
-    let told = format!(in alloc; "{front}, {other}{left}")?;
-    match word(case, 4) {
-        "" => Ok(told),
-        look => {
-            let bytes = bytes_at(&world.image, look);
-            format!(in alloc; "{told}, {bytes:?}")
-        }
-    }
+    let mut text = String::new(alloc);
+    push_done(&mut text, alloc, world, disk, done, word(case, 4))?;
+    Ok(text)
 }
 
 // The image of a case.

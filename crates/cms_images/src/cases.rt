@@ -1,10 +1,6 @@
 // What the words of a case name, for tests whose cases are rows of text.
-use crate::edits::edited;
-use crate::hello::HELLO;
-use crate::known::{
-    empty, erased, full, long_directory, one_file, put, sixteen_files, spanning, two_files,
-    wide_map,
-};
+use crate::hello::hello;
+use crate::known::{put, volume_named};
 use crate::new_volume::{Made, formatted};
 use cms_cases::{byte, number};
 use cms_ebcdic::from_host;
@@ -34,31 +30,10 @@ const NEW: Made = Made {
 /// The image of a name; no bytes where none is known by it.
 pub fn image_named(alloc: Global, name: &str) -> Result<Vec<u8>, AllocError> {
     match name {
-        "zeros" => edited(alloc, 9, &[]),
-        "empty" => empty(alloc),
-        "one file" => one_file(alloc),
-        "two files" => two_files(alloc),
-        "erased" => erased(alloc),
-        "full" => full(alloc),
-        "spanning" => spanning(alloc),
-        "hello" => edited(alloc, 9, &[HELLO]),
-        "long directory" => long_directory(alloc),
-        "long directory on 17" => longer(alloc, 17),
-        "long directory on 20" => longer(alloc, 20),
-        "sixteen files" => sixteen_files(alloc, 28),
-        "sixteen files on 27" => sixteen_files(alloc, 27),
-        "wide map" => wide_map(alloc),
+        "hello" => hello(alloc, &[]),
         "new on 8192" => formatted(alloc, &NEW),
-        _ => Ok(Vec::new(alloc)),
+        _ => volume_named(alloc, name),
     }
-}
-
-// The volume with the files A to G on so many blocks, of which its label says.
-fn longer(alloc: Global, blocks: u8) -> Result<Vec<u8>, AllocError> {
-    let mut image = long_directory(alloc)?;
-    image.resize(usize::from(blocks) * 512, 0)?;
-    put(image.as_mut_slice(), 3, 31, &[blocks]);
-    Ok(image)
 }
 
 // Puts bytes into an image, by a text of the block, the place in it, and the bytes in hexadecimal digits.
@@ -95,10 +70,6 @@ pub fn world_with(
 }
 
 /// The letters of all calls of a world.
-pub fn calls_of(alloc: Global, world: &MemWorld) -> Result<String, AllocError> {
-    let mut text = String::new(alloc);
-    for letter in world.calls() {
-        text.push(char::from(*letter))?;
-    }
-    Ok(text)
+pub fn calls_of(world: &MemWorld) -> &str {
+    str::from_utf8(world.calls()).unwrap_or("?")
 }

@@ -162,9 +162,9 @@ impl World for Disk {
             Err(Failed) => return Err(Failed),
         }
         let start = (block as usize).saturating_sub(1).saturating_mul(512);
-        for (into, byte) in into.iter_mut().zip(self.image.iter().skip(start)) {
-            *into = *byte;
-        }
+        let rest = self.image.get(start..).unwrap_or(&[]);
+        let count = rest.len().min(into.len());
+        into[..count].copy_from_slice(&rest[..count]);
         if self.calls == self.altering {
             into.fill(0);
         }

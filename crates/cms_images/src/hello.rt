@@ -1,6 +1,4 @@
 //! TEST01 with HELLO TEXT, what is put into it, and what its erasure writes. Nothing stands in it but what a reader looks at.
-ghost use Rattle.std.specs.Prelude.{◌≡◌, vec_len, IfOk};
-
 use crate::edits::{Edit, edited, put_edits};
 use std::alloc::{AllocError, Global};
 
@@ -138,11 +136,8 @@ pub const NEW_DIRECTORY: &[Edit] = &[
 pub const NEW_LABEL: &[Edit] = &[(3, 16, &[0, 0, 0, 5]), (3, 32, &[0, 0, 0, 6])];
 
 /// TEST01 with HELLO TEXT, and with these edits.
-pub fn hello(alloc: Global, edits: &[Edit]) -> Result<Vec<u8>, AllocError>
-    ensures { IfOk result (λ image. vec_len image ≡ 4608) }
-{
-    let mut image = vec![in alloc; 0; 9 * 512]?;
-    put_edits(image.as_mut_slice(), HELLO);
+pub fn hello(alloc: Global, edits: &[Edit]) -> Result<Vec<u8>, AllocError> {
+    let mut image = edited(alloc, 9, &[HELLO])?;
     put_edits(image.as_mut_slice(), edits);
     Ok(image)
 }

@@ -2,17 +2,9 @@
 ghost use Rattle.std.specs.Prelude.{◌≤◌};
 
 use crate::edits::put_at;
+use crate::entries;
+use crate::entries::{DIRECTORY, Entry, MAP, put_number};
 use std::alloc::{AllocError, Global};
-
-/// The name of the directory, as it is written.
-pub const DIRECTORY: [u8; 16] = [
-    0, 0, 0, 1, 0, 0, 0, 0, 0xC4, 0xC9, 0xD9, 0xC5, 0xC3, 0xE3, 0xD6, 0xD9,
-];
-
-/// The name of the allocation map.
-pub const MAP: [u8; 16] = [
-    0, 0, 0, 2, 0, 0, 0, 0, 0xC1, 0xD3, 0xD3, 0xD6, 0xC3, 0xD4, 0xC1, 0xD7,
-];
 
 // FILE0000 TEXT.
 const FILE: [u8; 16] = [
@@ -24,11 +16,6 @@ pub fn start_of(bsize: u32, block: u32) -> usize {
     block.saturating_sub(1) as usize * bsize as usize
 }
 
-/// Puts a number of four bytes, the highest first.
-pub fn put_number(image: &mut [u8], start: usize, number: u32) {
-    put_at(image, start, &number.to_be_bytes());
-}
-
 /// Puts the entry of a file of one block: its name, the length and the count of its records, and its block.
 pub fn put_entry(
     image: &mut [u8],
@@ -38,18 +25,17 @@ pub fn put_entry(
     count: u32,
     root: u32,
 ) {
-    put_at(image, start, name);
-    put_at(image, start.saturating_add(24), &[0xC1, 0xF1]);
-    put_at(image, start.saturating_add(30), &[0xC6]);
-    put_number(image, start.saturating_add(32), length);
-    put_number(image, start.saturating_add(40), root);
-    put_number(image, start.saturating_add(44), 1);
-    put_number(image, start.saturating_add(48), count);
-    put_at(
-        image,
-        start.saturating_add(52),
-        &[0, 4, 0x26, 0x07, 0x01, 0x12, 0x00, 0x00],
-    );
+    let entry = Entry {
+        name: *name,
+        format: [0xC6, 0x00],
+        length,
+        root,
+        blocks: 1,
+        records: count,
+        levels: [0, 4],
+        stamp: [0x26, 0x07, 0x01, 0x12, 0x00, 0x00],
+    };
+    entries::put_entry(image, start, &entry);
 }
 
 /// The four digits of a number below 10,000, in EBCDIC.

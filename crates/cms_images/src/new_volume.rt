@@ -1,6 +1,8 @@
 // What a volume is that was made and not used yet.
 use crate::edits::put_at;
-use crate::many::{DIRECTORY, MAP, put_marks, put_number, start_of};
+use crate::entries;
+use crate::entries::{DIRECTORY, Entry, MAP, put_number};
+use crate::many::{put_marks, start_of};
 use std::alloc::{AllocError, Global};
 
 /// The size of a volume that was made, and how many data blocks and pointer blocks its map has: one of these over more than one of those.
@@ -35,22 +37,16 @@ fn used(made: &Made) -> u32 {
 // Block 3.
 fn put_label(image: &mut [u8], made: &Made) {
     let start = start_of(made.bsize, 3);
-    put_at(image, start, &[0xC3, 0xD4, 0xE2, 0xF1]);
-    let volid = [0xE3, 0xC5, 0xE2, 0xE3, 0xF0, 0xF1];
-    put_at(image, start.saturating_add(4), &volid);
-    let numbers = [
-        (12, made.bsize),
-        (16, 4),
-        (20, made.total),
-        (24, made.total),
-        (28, made.total),
-        (32, used(made)),
-        (36, 64),
-        (40, made.bsize / 64),
-    ];
-    for (at, number) in numbers {
-        put_number(image, start.saturating_add(at), number);
-    }
+    let head = [0xC3, 0xD4, 0xE2, 0xF1, 0xE3, 0xC5, 0xE2, 0xE3, 0xF0, 0xF1];
+    put_at(image, start, &head);
+    put_number(image, start.saturating_add(12), made.bsize);
+    put_number(image, start.saturating_add(16), 4);
+    put_number(image, start.saturating_add(20), made.total);
+    put_number(image, start.saturating_add(24), made.total);
+    put_number(image, start.saturating_add(28), made.total);
+    put_number(image, start.saturating_add(32), used(made));
+    put_number(image, start.saturating_add(36), 64);
+    put_number(image, start.saturating_add(40), made.bsize / 64);
     let noon = [0x26, 0x07, 0x01, 0x12, 0x00, 0x00];
     put_at(image, start.saturating_add(44), &noon);
 }
@@ -68,15 +64,17 @@ fn put_directory(image: &mut [u8], made: &Made) {
 // The entry of a system file: the length of its records, its root, its data blocks and its records, and its levels.
 fn put_entry(image: &mut [u8], start: usize, name: &[u8; 16], numbers: [u32; 4], levels: u8) {
     let [length, root, blocks, records] = numbers;
-    put_at(image, start, name);
-    put_at(image, start.saturating_add(24), &[0xC1, 0xF1]);
-    put_at(image, start.saturating_add(30), &[0xC6, 0x08]);
-    put_number(image, start.saturating_add(32), length);
-    put_number(image, start.saturating_add(40), root);
-    put_number(image, start.saturating_add(44), blocks);
-    put_number(image, start.saturating_add(48), records);
-    let rest = [levels, 4, 0x26, 0x07, 0x01, 0x12, 0x00, 0x00];
-    put_at(image, start.saturating_add(52), &rest);
+    let entry = Entry {
+        name: *name,
+        format: [0xC6, 0x08],
+        length,
+        root,
+        blocks,
+        records,
+        levels: [levels, 4],
+        stamp: [0x26, 0x07, 0x01, 0x12, 0x00, 0x00],
+    };
+    entries::put_entry(image, start, &entry);
 }
 
 // The blocks from 6 on: a bit for each block in use, and the pointers to these blocks.

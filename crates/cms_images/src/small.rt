@@ -1,6 +1,7 @@
 // Volumes of a few files, each of one data block.
 use crate::edits::put_at;
-use crate::many::{DIRECTORY, MAP, put_entry, put_label, put_marks, put_number, start_of};
+use crate::entries::{DIRECTORY, MAP, put_number};
+use crate::many::{put_entry, put_label, put_marks, start_of};
 use std::alloc::{AllocError, Global};
 
 const SIZE: u32 = 512;

@@ -1,7 +1,8 @@
 // A volume whose directory and map have several blocks.
 use crate::edits::put_at;
+use crate::entries::{DIRECTORY, MAP};
 use crate::known::{put, put_number};
-use crate::many::{DIRECTORY, MAP, digits, name_of, put_entry, put_label, put_marks, start_of};
+use crate::many::{digits, name_of, put_entry, put_label, put_marks, start_of};
 use std::alloc::{AllocError, Global};
 
 const SIZE: u32 = 512;

@@ -1,9 +1,12 @@
 //! The tests of sessions, which so are proved without them, once: what is typed, line by line, behind the lines of a script, as
-//! transcripts; and sessions whose calls fail one by one, or that a crash stops. No part of the product.
+//! transcripts; and sessions whose calls fail one by one, or that a crash stops. And those of extensions: the editor, lists, and an
+//! extension of a few lines, as docs/EXTENSIONS.md shows it. No part of the product.
 #![tactic(auto)]
 
 #[cfg(test)]
 mod access_tests;
+#[cfg(test)]
+mod cases;
 #[cfg(test)]
 mod century_tests;
 #[cfg(test)]
@@ -13,7 +16,11 @@ mod deck_tests;
 #[cfg(test)]
 mod disk_tests;
 #[cfg(test)]
+mod echo;
+#[cfg(test)]
 mod edit_tests;
+#[cfg(test)]
+mod edits;
 #[cfg(test)]
 mod erase_tests;
 #[cfg(test)]
@@ -30,6 +37,8 @@ mod file_tests;
 mod format_tests;
 #[cfg(test)]
 mod listing_tests;
+#[cfg(test)]
+mod lists;
 #[cfg(test)]
 mod number_three;
 #[cfg(test)]

@@ -15,46 +15,52 @@ pub struct Transcript {
     pub handed: String,
 }
 
-// A text with a line behind it.
-fn push_line(text: &mut String, line: &str) -> Result<(), AllocError> {
-    text.push_str(line)?;
-    text.push_str("\n")
-}
-
 impl Transcript {
+    // Adds what a line says, where the procedure of this name began last.
+    fn push(&mut self, procedure: &str, line: &str) -> Result<(), AllocError> {
+        if let Some(text) = line.strip_prefix("| ") {
+            writeln!(
+                self.script,
+                "EXECIO 1 DISKW {procedure} EXEC A (STRING {text}"
+            )?;
+            self.typed.push_str("R;\n")
+        } else if let Some(words) = line.strip_prefix("+ ") {
+            self.handed.push_str(words)
+        } else if let Some(asked) = line.strip_prefix("> ") {
+            writeln!(self.script, "{asked}")
+        } else if let Some(last) = line.strip_prefix(">> ") {
+            self.script.push_str(last)
+        } else if is_told(line) {
+            Ok(())
+        } else {
+            writeln!(self.typed, "{line}")
+        }
+    }
+
+    // Adds what the lines of a text say.
+    fn push_lines(&mut self, text: &str) -> Result<(), AllocError> {
+        let mut procedure = "";
+        for line in text.lines() {
+            match line.strip_prefix("@ ") {
+                Some(name) => procedure = name,
+                None => self.push(procedure, line)?,
+            }
+        }
+        Ok(())
+    }
+
     /// What a text says: a line behind a sign for more is one of the script, and behind two of them the script's end, which no line feed
     /// ends. Behind an at sign stands the name of a procedure, and behind a bar each of its lines, which a line of the script writes, with
     /// its ready line. Behind a plus sign stand the words of extensions. The others are typed, but for those that tell of the session
     /// itself.
     pub fn of(alloc: Global, text: &str) -> Result<Transcript, AllocError> {
-        let mut script = String::new(alloc);
-        let mut typed = String::new(alloc);
-        let mut handed = String::new(alloc);
-        let mut procedure = "";
-        for line in text.lines() {
-            if let Some(name) = line.strip_prefix("@ ") {
-                procedure = name;
-            } else if let Some(text) = line.strip_prefix("| ") {
-                for part in ["EXECIO 1 DISKW ", procedure, " EXEC A (STRING "] {
-                    script.push_str(part)?;
-                }
-                push_line(&mut script, text)?;
-                push_line(&mut typed, "R;")?;
-            } else if let Some(words) = line.strip_prefix("+ ") {
-                handed.push_str(words)?;
-            } else if let Some(asked) = line.strip_prefix("> ") {
-                push_line(&mut script, asked)?;
-            } else if let Some(last) = line.strip_prefix(">> ") {
-                script.push_str(last)?;
-            } else if !is_told(line) {
-                push_line(&mut typed, line)?;
-            }
-        }
-        Ok(Transcript {
-            script,
-            typed,
-            handed,
-        })
+        let mut transcript = Transcript {
+            script: String::new(alloc),
+            typed: String::new(alloc),
+            handed: String::new(alloc),
+        };
+        transcript.push_lines(text)?;
+        Ok(transcript)
     }
 }
 
@@ -124,73 +130,79 @@ pub fn text_of(bytes: &[u8]) -> &str {
     }
 }
 
-/// How a session ends that isn't as its transcript says, its script and what it types, behind what it is; nothing where it is so.
-pub fn differs(
+/// Adds how a session ends that isn't as its transcript says, its script and what it types, behind what it is; nothing where it is so.
+pub fn push_differs(
+    into: &mut String,
     alloc: Global,
-    what: &str,
-    words: &str,
+    (what, words): (&str, &str),
     world: &mut MemWorld,
     transcript: &Transcript,
     ending: &str,
-) -> Result<String, AllocError> {
+) -> Result<(), AllocError> {
     let status = ended_with(alloc, words, &transcript.handed, world)?;
     let calls = text_of(world.calls());
     let told = format!(in alloc; "{status:?} {calls} {} {} ", world.units(), world.events())?;
     if ends_as(&told, ending) && world.typed() == transcript.typed.as_bytes() {
-        return Ok(String::new(alloc));
+        return Ok(());
     }
     let typed = text_of(world.typed());
-    format!(in alloc; "{what}: {told}\n{}\n{typed}", transcript.script)
+    write!(into, "{what}: {told}\n{}\n{typed}", transcript.script)
 }
 
-// What the session left that isn't this image; nothing where it is so, and where no image is named.
-fn left_otherwise(alloc: Global, world: &MemWorld, name: &str) -> Result<String, AllocError> {
-    let told = if !name.is_empty()
-        && image_left(alloc, world, world.events(), 0)? != image(alloc, name)?
-    {
-        name
-    } else {
-        ""
-    };
-    String::from_str(alloc, told)
+// Adds the name of the image that the session didn't leave; nothing where it did so, and where no image is named.
+fn push_left(
+    into: &mut String,
+    alloc: Global,
+    world: &MemWorld,
+    name: &str,
+) -> Result<(), AllocError> {
+    if name.is_empty() || image_left(alloc, world, world.events(), 0)? == image(alloc, name)? {
+        return Ok(());
+    }
+    into.push_str(name)
 }
 
-// The same of the session that a text says, behind its images and its words.
-fn session_unlike(alloc: Global, head: &str, text: &str) -> Result<String, AllocError> {
+// Adds what of a session isn't as its text says, behind its images and its words.
+fn push_session(
+    into: &mut String,
+    alloc: Global,
+    head: &str,
+    text: &str,
+) -> Result<(), AllocError> {
     let (images, words) = head.split_once(": ").unwrap_or((head, WORDS));
     let transcript = Transcript::of(alloc, text)?;
     let mut world = world_at(alloc, images, &transcript.script, start(text))?;
     plan(&mut world, line_behind(text, PLAN))?;
     let ending = line_behind(text, ENDING);
-    let differing = differs(alloc, head, words, &mut world, &transcript, ending)?;
-    if !differing.is_empty() {
-        return Ok(differing);
-    }
-    left_otherwise(alloc, &world, line_behind(text, LEFT))
+    push_differs(into, alloc, (head, words), &mut world, &transcript, ending)?;
+    push_left(into, alloc, &world, line_behind(text, LEFT))
 }
 
-// What the first session does that isn't as its transcript says; nothing where all are so.
-fn unlike(alloc: Global, transcripts: &str) -> Result<String, AllocError> {
-    let whole = written_out(alloc, transcripts)?;
-    for part in whole.split("# ") {
-        let Some((head, text)) = part.split_once("\n") else {
-            continue;
-        };
-        let differing = session_unlike(alloc, head, text)?;
-        if !differing.is_empty() {
-            return Ok(differing);
+// Adds what the first session does that isn't as its transcript says; nothing where all are so.
+fn push_sessions(into: &mut String, alloc: Global, transcripts: &str) -> Result<(), AllocError> {
+    for part in transcripts.split("# ") {
+        if let Some((head, text)) = part.split_once("\n")
+            && into.is_empty()
+        {
+            push_session(into, alloc, head, text)?;
         }
     }
-    Ok(String::new(alloc))
+    Ok(())
+}
+
+// The same of all tables, whose pieces in braces are written out.
+fn unlike(alloc: Global, tables: &[&str]) -> Result<String, AllocError> {
+    let mut differing = String::new(alloc);
+    for transcripts in tables {
+        push_sessions(&mut differing, alloc, &written_out(alloc, transcripts)?)?;
+    }
+    Ok(differing)
 }
 
 /// The sessions of all tables are as their transcripts say. Each stands behind a line with the names of its images and, behind a colon, the
 /// program's words where they aren't [`WORDS`]. A piece in braces, with a star and a number behind it, stands for so many of it.
 pub fn check_sessions(alloc: Global, tables: &[&str]) -> Result<(), Fail> {
-    for transcripts in tables {
-        passed(unlike(alloc, transcripts)?)?;
-    }
-    Ok(())
+    passed(unlike(alloc, tables)?)
 }
 
 /// A test has passed where nothing differs; else it fails by what does.

@@ -1,6 +1,6 @@
 // A session whose calls of the world fail one by one, and what a crash leaves of it.
 use crate::session::ended;
-use crate::transcript::{Transcript, differs, passed, text_of};
+use crate::transcript::{Transcript, passed, push_differs, text_of};
 use crate::volumes::world_named;
 use cms_images::crashed;
 use cms_session::Status;
@@ -10,9 +10,6 @@ use std::test::Fail;
 
 // Which of the blocks that were written and not synced are as written: none, all, and of every two the second or the first.
 const CHOICES: [u64; 4] = [0, u64::MAX, 0xAAAA_AAAA_AAAA_AAAA, 0x5555_5555_5555_5555];
-
-// The images of the units, in their order.
-const UNITS: [(u8, &str); 2] = [(0, "A"), (1, "B")];
 
 // In place of a state that isn't looked at.
 const UNTRIED: &str = "-";
@@ -50,22 +47,23 @@ struct Row<'a> {
     text: &'a str,
 }
 
+// The word at a place of the head of a row; empty where there is none.
+fn word_of(head: &str, place: usize) -> &str {
+    head.split(' ').nth(place).unwrap_or("")
+}
+
 // A row of a table.
 fn row_of(part: &str) -> Option<Row<'_>> {
     let (head, text) = part.split_once("\n")?;
-    let mut words = head.split(' ');
-    let first: usize = words.next()?.parse().ok()?;
-    let last: usize = words.next()?.parse().ok()?;
-    let words = [
-        words.next()?,
-        words.next()?,
-        words.next().unwrap_or(""),
-        words.next().unwrap_or(""),
-    ];
     Some(Row {
-        first,
-        last,
-        words,
+        first: word_of(head, 0).parse().ok()?,
+        last: word_of(head, 1).parse().ok()?,
+        words: [
+            word_of(head, 2),
+            word_of(head, 3),
+            word_of(head, 4),
+            word_of(head, 5),
+        ],
         text,
     })
 }
@@ -103,6 +101,21 @@ fn named<'a>(parts: &'a str, name: &str) -> &'a str {
     ""
 }
 
+// Adds what a crash leaves of a unit as the image of a name.
+fn add_left(
+    next: &mut MemWorld,
+    alloc: Global,
+    world: &MemWorld,
+    (unit, name): (u8, &str),
+    at: usize,
+    choice: u64,
+) -> Result<(), AllocError> {
+    match crashed(alloc, world, unit, at, choice)? {
+        Some(left) => next.add_image(name, &left),
+        None => Ok(()),
+    }
+}
+
 impl Trial {
     // Whether a crash after so many events, by these choices, leaves a state.
     fn leaves(
@@ -115,11 +128,8 @@ impl Trial {
     ) -> Result<bool, AllocError> {
         let [words, script] = self.look;
         let mut next = world_named(alloc, self.images, script)?;
-        for (unit, name) in UNITS {
-            if let Some(left) = crashed(alloc, world, unit, at, choice)? {
-                next.add_image(name, &left)?;
-            }
-        }
+        add_left(&mut next, alloc, world, (0, "A"), at, choice)?;
+        add_left(&mut next, alloc, world, (1, "B"), at, choice)?;
         ended(alloc, words, &mut next)?;
         Ok(next.typed() == named(self.states, state).as_bytes())
     }
@@ -141,18 +151,37 @@ impl Trial {
         Ok("")
     }
 
-    // The first moment at which a crash leaves other states than it should; nothing where there is none.
-    fn crashes(&self, alloc: Global, world: &MemWorld) -> Result<String, AllocError> {
-        for at in 0..world.events().saturating_add(1) {
-            let Some(row) = row_for(self.moments, at, true) else {
-                return format!(in alloc; "no row of event {at}");
-            };
-            let state = self.not_left(alloc, world, at, &row)?;
-            if !state.is_empty() {
-                return format!(in alloc; "event {at}: not {state}");
-            }
+    // Adds what a crash at a moment doesn't leave; nothing where something differs before.
+    fn push_crash(
+        &self,
+        into: &mut String,
+        alloc: Global,
+        world: &MemWorld,
+        at: usize,
+    ) -> Result<(), AllocError> {
+        if !into.is_empty() {
+            return Ok(());
         }
-        Ok(String::new(alloc))
+        let Some(row) = row_for(self.moments, at, true) else {
+            return write!(into, "no row of event {at}");
+        };
+        match self.not_left(alloc, world, at, &row)? {
+            "" => Ok(()),
+            state => write!(into, "event {at}: not {state}"),
+        }
+    }
+
+    // Adds the first moment at which a crash leaves other states than it should; nothing where there is none.
+    fn push_crashes(
+        &self,
+        into: &mut String,
+        alloc: Global,
+        world: &MemWorld,
+    ) -> Result<(), AllocError> {
+        for at in 0..world.events().saturating_add(1) {
+            self.push_crash(into, alloc, world, at)?;
+        }
+        Ok(())
     }
 
     // Whether a session that types these lines where no call fails ended as it should where this one did: it types what the row says where
@@ -170,77 +199,108 @@ impl Trial {
             && lines.count() == calls.filter(|letter| **letter == b'o').count()
     }
 
-    // What a session types in which this call fails, where it isn't as it should be; nothing where it is.
-    fn failing(
+    // Whether the states of a row stand where nothing of what isn't synced is written, and all of it.
+    fn leaves_both(
         &self,
+        alloc: Global,
+        world: &MemWorld,
+        row: &Row<'_>,
+    ) -> Result<bool, AllocError> {
+        let [none, all, _, _] = row.words;
+        let at = world.events();
+        Ok(self.leaves(alloc, world, at, 0, none)? && self.leaves(alloc, world, at, u64::MAX, all)?)
+    }
+
+    // Adds how a session ends and what it types in a world in which this call fails, where that isn't as it should be.
+    fn push_ended(
+        &self,
+        into: &mut String,
+        alloc: Global,
+        world: &mut MemWorld,
+        whole: &Transcript,
+        (call, lands): (u32, bool),
+        row: &Row<'_>,
+    ) -> Result<(), AllocError> {
+        let status = ended(alloc, self.words, world)?;
+        if self.ends(call as usize, status, world, whole.typed.as_str(), row.text)
+            && self.leaves_both(alloc, world, row)?
+        {
+            return Ok(());
+        }
+        write!(
+            into,
+            "call {call}, {lands}: {status:?}\n{}",
+            text_of(world.typed())
+        )
+    }
+
+    // Adds what differs where this call fails; nothing where something differs before.
+    fn push_failing(
+        &self,
+        into: &mut String,
         alloc: Global,
         whole: &Transcript,
         call: u32,
         lands: bool,
-    ) -> Result<String, AllocError> {
+    ) -> Result<(), AllocError> {
+        if !into.is_empty() {
+            return Ok(());
+        }
         let Some(row) = row_for(self.faults, call as usize, lands) else {
-            return format!(in alloc; "no row of call {call}");
+            return write!(into, "no row of call {call}");
         };
-        let [none, all, _, _] = row.words;
-        if none == UNTRIED {
-            return Ok(String::new(alloc));
+        if row.words[0] == UNTRIED {
+            return Ok(());
         }
         let mut world = world_named(alloc, self.images, &whole.script)?;
         world.fail_at(call, lands)?;
-        let status = ended(alloc, self.words, &mut world)?;
-        let at = world.events();
-        if self.ends(
-            call as usize,
-            status,
-            &world,
-            whole.typed.as_str(),
-            row.text,
-        ) && self.leaves(alloc, &world, at, 0, none)?
-            && self.leaves(alloc, &world, at, u64::MAX, all)?
-        {
-            return Ok(String::new(alloc));
-        }
-        let typed = text_of(world.typed());
-        format!(in alloc; "call {call}, {lands}: {status:?}\n{typed}")
+        self.push_ended(into, alloc, &mut world, whole, (call, lands), &row)
     }
 
-    // The first call that fails otherwise than it should; nothing where there is none.
-    fn failures(&self, alloc: Global, whole: &Transcript) -> Result<String, AllocError> {
-        for (call, _) in (1..u32::MAX).zip(self.calls.iter()) {
-            for lands in [false, true] {
-                let differing = self.failing(alloc, whole, call, lands)?;
-                if !differing.is_empty() {
-                    return Ok(differing);
-                }
-            }
+    // Adds the first call that fails otherwise than it should; nothing where there is none.
+    fn push_failures(
+        &self,
+        into: &mut String,
+        alloc: Global,
+        whole: &Transcript,
+    ) -> Result<(), AllocError> {
+        for place in 0..self.calls.len() {
+            let call = (place as u32).saturating_add(1);
+            self.push_failing(into, alloc, whole, call, false)?;
+            self.push_failing(into, alloc, whole, call, true)?;
         }
-        Ok(String::new(alloc))
+        Ok(())
     }
 
-    // What isn't as the trial says; nothing where all is so.
-    fn difference(&self, alloc: Global) -> Result<String, AllocError> {
-        let transcript = Transcript::of(alloc, self.transcript)?;
-        let mut world = world_named(alloc, self.images, &transcript.script)?;
-        let differing = differs(alloc, "whole", self.words, &mut world, &transcript, "")?;
-        if !differing.is_empty() {
-            return Ok(differing);
+    // Adds the calls of a session where they aren't as they should be.
+    fn push_calls(&self, into: &mut String, world: &MemWorld) -> Result<(), AllocError> {
+        if world.calls() == self.calls {
+            return Ok(());
         }
-        if world.calls() != self.calls {
-            let calls = text_of(world.calls());
-            return format!(in alloc; "{calls}");
-        }
-        let differing = self.crashes(alloc, &world)?;
-        if !differing.is_empty() {
-            return Ok(differing);
-        }
-        self.failures(alloc, &transcript)
+        into.push_str(text_of(world.calls()))
     }
+
+    // Adds what isn't as the trial says; nothing where all is so.
+    fn push_difference(&self, into: &mut String, alloc: Global) -> Result<(), AllocError> {
+        let whole = Transcript::of(alloc, self.transcript)?;
+        let mut world = world_named(alloc, self.images, &whole.script)?;
+        push_differs(into, alloc, ("whole", self.words), &mut world, &whole, "")?;
+        self.push_calls(into, &world)?;
+        self.push_crashes(into, alloc, &world)?;
+        self.push_failures(into, alloc, &whole)
+    }
+}
+
+// What isn't as the trials say; nothing where all is so.
+fn difference(alloc: Global, trials: &[Trial]) -> Result<String, AllocError> {
+    let mut differing = String::new(alloc);
+    for trial in trials {
+        trial.push_difference(&mut differing, alloc)?;
+    }
+    Ok(differing)
 }
 
 /// All is as the trials say: their sessions run without a failure, with a crash at every moment, and with each of their calls failing.
 pub fn check_trials(alloc: Global, trials: &[Trial]) -> Result<(), Fail> {
-    for trial in trials {
-        passed(trial.difference(alloc)?)?;
-    }
-    Ok(())
+    passed(difference(alloc, trials)?)
 }

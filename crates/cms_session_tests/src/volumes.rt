@@ -1,6 +1,5 @@
 // The images of transcripts, by their names.
-use cms_images::hello::{ERASE_EXEC, HELLO, LONG, MARKED, NO_LABEL, TYPE_EXEC, hello, three};
-use cms_images::known::{empty, full, long_directory, one_file, spanning, two_files};
+use cms_images::hello::{ERASE_EXEC, HELLO, LONG, MARKED, NO_LABEL, TYPE_EXEC, three};
 use cms_images::{
     Edit, SmallFile, edited, image_named, many_files, put_edits, small_volume, wide_volume,
 };
@@ -349,14 +348,14 @@ fn files(name: &str) -> &'static [SmallFile] {
 // An image before it is changed.
 fn original(alloc: Global, name: &str) -> Result<Vec<u8>, AllocError> {
     match name {
-        "empty" => empty(alloc),
-        "one file" => one_file(alloc),
-        "two files" => two_files(alloc),
-        "full" => full(alloc),
-        "spanning" => spanning(alloc),
-        "long directory" => long_directory(alloc),
-        "long directory on 20" => image_named(alloc, name),
-        "hello" => hello(alloc, &[]),
+        "empty"
+        | "one file"
+        | "two files"
+        | "full"
+        | "spanning"
+        | "long directory"
+        | "long directory on 20"
+        | "hello" => image_named(alloc, name),
         "three hellos" => three(alloc),
         "long records" => edited(alloc, 20, &[HELLO, LONG]),
         "wide" => wide_volume(alloc),
@@ -379,13 +378,23 @@ pub fn image(alloc: Global, name: &str) -> Result<Vec<u8>, AllocError> {
     Ok(image)
 }
 
+// Adds an image of a name to those of a world.
+fn add_image(
+    world: &mut MemWorld,
+    alloc: Global,
+    letter: &str,
+    name: &str,
+) -> Result<(), AllocError> {
+    world.add_image(letter, &image(alloc, name)?)
+}
+
 // Adds the images A, B and C.
 fn add_images(alloc: Global, world: &mut MemWorld, names: &str) -> Result<(), AllocError> {
     let (first, others) = names.split_once(" + ").unwrap_or((names, "second"));
     let (second, third) = others.split_once(" + ").unwrap_or((others, "one file"));
-    world.add_image("A", &image(alloc, first)?)?;
-    world.add_image("B", &image(alloc, second)?)?;
-    world.add_image("C", &image(alloc, third)?)
+    add_image(world, alloc, "A", first)?;
+    add_image(world, alloc, "B", second)?;
+    add_image(world, alloc, "C", third)
 }
 
 /// A world with the images A, B and C, whose names stand between plus signs; they are a volume without files where a name is none that is

@@ -2,7 +2,6 @@
 ghost use Rattle.std.specs.Prelude.{All};
 ghost use Rattle.mini_words.specs.Ranges.{IsWithin};
 
-use cms_cases::push_ascii;
 use cms_text::Series;
 use cms_world::{Argv, MemWorld};
 use mini_host::MemHost;
@@ -82,7 +81,7 @@ fn push_request(
     requires { IsWithin request.now }
 {
     if world.units() >= 256 {
-        return push_ascii(into, b"no more units");
+        return into.push_str("no more units");
     }
     let typed = world.typed().len();
     let notes = host.notes().len();
@@ -122,7 +121,7 @@ fn run(
     let mut found = String::new(alloc);
     match read_requests(alloc, &words) {
         Ok(requests) => push_requests(&mut found, alloc, world, host, &requests)?,
-        Err(_) => push_ascii(&mut found, b"words")?,
+        Err(_) => found.push_str("words")?,
     }
     Ok(found)
 }

@@ -1,5 +1,5 @@
 // Lists of words with what they ask for.
-use cms_cases::push_ascii;
+use cms_cases::Ascii;
 use cms_journal::BlockSize;
 use cms_names::Name;
 use cms_text::Series;
@@ -114,24 +114,20 @@ fn push_on(into: &mut String, name: &str, image: &Image) -> Result<(), AllocErro
 }
 
 fn push_name(into: &mut String, name: &Name) -> Result<(), AllocError> {
-    into.push(' ')?;
-    push_ascii(into, name.file.as_bytes())?;
-    into.push('.')?;
-    push_ascii(into, name.kind.as_bytes())
+    let (file, kind) = (Ascii(name.file.as_bytes()), Ascii(name.kind.as_bytes()));
+    write!(into, " {file}.{kind}")
 }
 
 fn push_patterns(into: &mut String, names: &Series<NamePattern>) -> Result<(), AllocError> {
     for name in names.as_slice() {
-        into.push(' ')?;
-        into.push_str(name.word.text())?;
+        write!(into, " {}", name.word.text())?;
     }
     Ok(())
 }
 
 fn push_files(into: &mut String, files: &Series<ImageName>) -> Result<(), AllocError> {
     for file in files.as_slice() {
-        into.push(' ')?;
-        into.push_str(file.text())?;
+        write!(into, " {}", file.text())?;
     }
     Ok(())
 }
@@ -194,9 +190,7 @@ fn push_made(
     label: &[u8; 6],
     offset: i32,
 ) -> Result<(), AllocError> {
-    write!(into, " {blocks} ")?;
-    push_ascii(into, label)?;
-    write!(into, " {offset}")
+    write!(into, " {blocks} {} {offset}", Ascii(label))
 }
 
 fn push_blocks(into: &mut String, blocks: &Series<u32>) -> Result<(), AllocError> {

@@ -3,8 +3,8 @@ ghost use Rattle.std.specs.Prelude.{◌≤◌, length, IfOk};
 ghost use Rattle.cms_fields.specs.Limits.{most_bytes};
 ghost use Rattle.cms_model.specs.Records.{IsValid};
 
-use crate::exec2::shared::{STAMP, coded, procedure_of, quoted, word};
-use cms_cases::{ascii, told};
+use crate::exec2::shared::{STAMP, coded, procedure_of, push_quoted, quoted, word};
+use cms_cases::{Ascii, told};
 use cms_model::{FileData, Stored};
 use cms_names::Format;
 use cms_text::{first_word, is_keyword, without_trailing_blanks};
@@ -42,29 +42,37 @@ fn change(alloc: Global, vars: &mut Vars, step: &str) -> Result<(), AllocError> 
     Ok(())
 }
 
-// How many variables there are, and the value of B.
-fn state(alloc: Global, vars: &Vars) -> Result<String, AllocError> {
+// Adds how many variables there are, and the value of B.
+fn push_state(into: &mut String, alloc: Global, vars: &Vars) -> Result<(), AllocError> {
     if vars.is_empty() {
-        return String::from_str(alloc, "empty");
+        return into.push_str("empty");
     }
-    let count = vars.len();
+    write!(into, "{} ", vars.len())?;
     match vars.get(word(alloc, "B")?.bytes()) {
-        Some(value) => {
-            let value = quoted(alloc, value)?;
-            format!(in alloc; "{count} {value}")
-        }
-        None => format!(in alloc; "{count} none"),
+        Some(value) => push_quoted(into, value),
+        None => into.push_str("none"),
     }
+}
+
+// Takes a step, and adds how the variables are then.
+fn push_change(
+    into: &mut String,
+    alloc: Global,
+    vars: &mut Vars,
+    step: &str,
+) -> Result<(), AllocError> {
+    change(alloc, vars, step)?;
+    into.push(';')?;
+    push_state(into, alloc, vars)
 }
 
 // How the variables are at first and after each step.
 fn states(alloc: Global, steps: &str) -> Result<String, AllocError> {
     let mut vars = Vars::new(alloc);
-    let mut all = state(alloc, &vars)?;
+    let mut all = String::new(alloc);
+    push_state(&mut all, alloc, &vars)?;
     for step in steps.split(';') {
-        change(alloc, &mut vars, step)?;
-        all.push(';')?;
-        all.push_str(state(alloc, &vars)?.as_str())?;
+        push_change(&mut all, alloc, &mut vars, step)?;
     }
     Ok(all)
 }
@@ -90,8 +98,8 @@ fn expanded(alloc: Global, text: &str) -> Result<String, AllocError> {
 // The first word of a line, and the line without the blanks at its end.
 fn parts(alloc: Global, line: &str) -> Result<String, AllocError> {
     let bytes = coded(alloc, line)?;
-    let first = ascii(alloc, first_word(bytes.as_slice()))?;
-    let kept = ascii(alloc, without_trailing_blanks(bytes.as_slice()))?;
+    let first = Ascii(first_word(bytes.as_slice()));
+    let kept = Ascii(without_trailing_blanks(bytes.as_slice()));
     format!(in alloc; "[{first}][{kept}]")
 }
 
@@ -100,29 +108,32 @@ fn is_trace(alloc: Global, word: &str) -> Result<String, AllocError> {
     told(alloc, &is_keyword(bytes.as_slice(), "&TRACE"))
 }
 
-// How many lines a procedure has, or why there is none.
-fn count_of(alloc: Global, read: Result<Procedure, ProcFault>) -> Result<String, AllocError> {
+// How many lines a procedure in records of this length has, or why there is none.
+fn count_of(alloc: Global, size: u16, lines: &str) -> Result<String, AllocError> {
+    let read = procedure_of(alloc, size, lines)?;
     told(alloc, &read.map(|procedure| procedure.len()))
 }
 
-// The lines of a procedure up to the first place at which there is none.
-fn lines_in(alloc: Global, procedure: &Procedure) -> Result<String, AllocError> {
-    let mut all = format!(in alloc; "{}", procedure.len())?;
+// Adds the lines of a procedure up to the first place at which there is none.
+fn push_lines(into: &mut String, procedure: &Procedure) -> Result<(), AllocError> {
+    write!(into, "{}", procedure.len())?;
     for place in 0..9 {
-        let Some(line) = procedure.get(place) else {
-            return Ok(all);
-        };
-        all.push_str(quoted(alloc, line)?.as_str())?;
+        match procedure.get(place) {
+            Some(line) => push_quoted(into, line)?,
+            None => return Ok(()),
+        }
     }
-    Ok(all)
+    Ok(())
 }
 
 // The lines of a procedure, or why there is none.
 fn lines_of(alloc: Global, read: Result<Procedure, ProcFault>) -> Result<String, AllocError> {
+    let mut all = String::new(alloc);
     match read {
-        Ok(procedure) => lines_in(alloc, &procedure),
-        Err(fault) => told(alloc, &fault),
+        Ok(procedure) => push_lines(&mut all, &procedure)?,
+        Err(fault) => write!(all, "{fault:?}")?,
     }
+    Ok(all)
 }
 
 /// Lines, each with a word for what is asked of the text behind it, and the answers:
@@ -194,8 +205,8 @@ pub fn answer(alloc: Global, case: &str) -> Result<String, AllocError> {
         "vars" => states(alloc, text),
         "parts" => parts(alloc, text),
         "trace" => is_trace(alloc, text),
-        "short" => count_of(alloc, procedure_of(alloc, 80, text)?),
-        "long" => count_of(alloc, procedure_of(alloc, 300, text)?),
+        "short" => count_of(alloc, 80, text),
+        "long" => count_of(alloc, 300, text),
         "lines" => lines_of(alloc, procedure_of(alloc, 80, text)?),
         "varying" => lines_of(alloc, read_procedure(alloc, &varying(alloc)?)),
         _ => String::from_str(alloc, "another word"),

@@ -1,9 +1,10 @@
 // Procedures and what they want, by the rules of VM/SP EXEC 2.
 use crate::exec2::shared::{coded, procedure_of, word};
-use cms_cases::{number, push_ascii};
+use cms_cases::{Ascii, number};
 use cms_fields::Moment;
 use cms_names::{Name, Part};
 use cms_text::Lines;
+use exec2_parse::Procedure;
 use exec2_run::{Exec, FileName, Side, Want};
 use std::alloc::{AllocError, Global};
 
@@ -347,15 +348,20 @@ fn found(alloc: Global) -> Result<FileName, AllocError> {
     })
 }
 
-// A procedure that is called, by its name alone where no line is given.
-fn started(alloc: Global, called: &str, lines: &str) -> Result<Exec, AllocError> {
+// The procedure of these lines behind the one that turns the trace off.
+fn procedure(alloc: Global, lines: &str) -> Result<Procedure, AllocError> {
     let lines = format!(in alloc; "&TRACE OFF;{lines}")?;
-    let called = word(alloc, if called.is_empty() { "T" } else { called })?;
-    let found = found(alloc)?;
     match procedure_of(alloc, 255, lines.as_str())? {
-        Ok(procedure) => Exec::start(alloc, procedure, &called, &found),
+        Ok(procedure) => Ok(procedure),
         Err(_) => Err(AllocError),
     }
+}
+
+// A procedure that is called, by its name alone where no line is given.
+fn started(alloc: Global, called: &str, lines: &str) -> Result<Exec, AllocError> {
+    let found = found(alloc)?;
+    let called = word(alloc, if called.is_empty() { "T" } else { called })?;
+    Exec::start(alloc, procedure(alloc, lines)?, &called, &found)
 }
 
 // The moment of a turn, from 0: 2000-01-01 00:00:00, and a second more for each.
@@ -374,34 +380,13 @@ fn next_want(exec: &mut Exec, turn: &mut u32) -> Result<Want, AllocError> {
     exec.turn(&now)
 }
 
-// Adds a text of EBCDIC, between brackets and with a blank before it.
-fn push_text(into: &mut String, text: &[u8]) -> Result<(), AllocError> {
-    into.push_str(" [")?;
-    push_ascii(into, text)?;
-    into.push(']')
-}
-
-// Adds a word and the lines behind it.
+// Adds a word and the lines behind it, each between brackets and with a blank before it.
 fn push_lines(into: &mut String, first: &str, lines: &Lines) -> Result<(), AllocError> {
     into.push_str(first)?;
     for line in lines.as_slice() {
-        push_text(into, line.bytes())?;
+        write!(into, " [{}]", Ascii(line.bytes()))?;
     }
     into.push(';')
-}
-
-// Adds a word and a text behind it.
-fn push_one(into: &mut String, first: &str, text: &[u8]) -> Result<(), AllocError> {
-    into.push_str(first)?;
-    push_text(into, text)?;
-    into.push(';')
-}
-
-// Adds an extension's word and the text that goes to it.
-fn push_sub(into: &mut String, word: &[u8], text: &[u8]) -> Result<(), AllocError> {
-    into.push_str("sub")?;
-    push_text(into, word)?;
-    push_one(into, "", text)
 }
 
 // Adds what is wanted.
@@ -412,8 +397,15 @@ fn push_want(into: &mut String, want: &Want) -> Result<(), AllocError> {
         Want::Stack(lines, Side::Front) => push_lines(into, "stack front", lines),
         Want::Stack(lines, Side::Back) => push_lines(into, "stack back", lines),
         Want::Read => into.push_str("read;"),
-        Want::Command(command) => push_one(into, "cmd", command.bytes()),
-        Want::Sub(word, text) => push_sub(into, word.bytes(), text.bytes()),
+        Want::Command(command) => write!(into, "cmd [{}];", Ascii(command.bytes())),
+        Want::Sub(word, text) => {
+            write!(
+                into,
+                "sub [{}] [{}];",
+                Ascii(word.bytes()),
+                Ascii(text.bytes())
+            )
+        }
         Want::Ended(code) => write!(into, "end {code}"),
         Want::Failed { number, line } => write!(into, "fail {number} {line}"),
     }

@@ -3,7 +3,7 @@ ghost use Rattle.std.specs.Prelude.{◌≤◌, length, IfOk};
 ghost use Rattle.cms_fields.specs.Limits.{most_bytes};
 ghost use Rattle.cms_model.specs.Records.{IsValid};
 
-use cms_cases::ascii;
+use cms_cases::Ascii;
 use cms_fields::Stamp;
 use cms_model::{FileData, Stored};
 use cms_names::Format;
@@ -28,14 +28,20 @@ pub fn word(alloc: Global, text: &str) -> Result<Word, AllocError> {
     Ok(Word::take(bytes))
 }
 
-/// A word between apostrophes, or how many bytes it has, if these are many.
-pub fn quoted(alloc: Global, word: &Word) -> Result<String, AllocError> {
+/// Adds a word between apostrophes, or how many bytes it has, if these are many.
+pub fn push_quoted(into: &mut String, word: &Word) -> Result<(), AllocError> {
     let bytes = word.bytes();
     if bytes.len() > 99 {
-        return format!(in alloc; "{} bytes", bytes.len());
+        return write!(into, "{} bytes", bytes.len());
     }
-    let text = ascii(alloc, bytes)?;
-    format!(in alloc; "'{text}'")
+    write!(into, "'{}'", Ascii(bytes))
+}
+
+/// The same alone.
+pub fn quoted(alloc: Global, word: &Word) -> Result<String, AllocError> {
+    let mut text = String::new(alloc);
+    push_quoted(&mut text, word)?;
+    Ok(text)
 }
 
 /// The first of January 1900.
@@ -58,16 +64,22 @@ fn copies(line: &str) -> (u32, &str) {
     (1, line)
 }
 
+// Adds a line, as often as it stands there, with blanks behind it up to a size.
+fn push_cards(bytes: &mut Vec<u8>, alloc: Global, size: u16, line: &str) -> Result<(), AllocError> {
+    let (count, text) = copies(line);
+    let mut card = coded(alloc, text)?;
+    card.resize(usize::from(size), 0x40)?;
+    for _ in 0..count {
+        bytes.extend_from_slice(&card)?;
+    }
+    Ok(())
+}
+
 // The lines between semicolons, each with blanks behind it up to a size.
 fn filled(alloc: Global, size: u16, lines: &str) -> Result<Vec<u8>, AllocError> {
     let mut bytes = Vec::new(alloc);
     for line in lines.split(';') {
-        let (count, text) = copies(line);
-        let mut card = coded(alloc, text)?;
-        card.resize(usize::from(size), 0x40)?;
-        for _ in 0..count {
-            bytes.extend_from_slice(&card)?;
-        }
+        push_cards(&mut bytes, alloc, size, line)?;
     }
     Ok(bytes)
 }

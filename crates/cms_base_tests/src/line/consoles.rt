@@ -1,7 +1,7 @@
 // Scripts and their lines.
-use crate::line::pieces::{Pieces, in_pieces};
 use crate::line::words::blank_word;
-use cms_cases::{number, push_ascii};
+use crate::plain_world::{PlainWorld, in_pieces};
+use cms_cases::{Ascii, number};
 use cms_line::{Console, ConsoleLine, LineFault};
 use std::alloc::{AllocError, Global};
 
@@ -56,7 +56,7 @@ fn push_text(into: &mut String, line: &[u8]) -> Result<(), AllocError> {
     if line.len() > 99 && is_letters(line) {
         return write!(into, "{}*", line.len());
     }
-    push_ascii(into, line)
+    write!(into, "{}", Ascii(line))
 }
 
 // What stands behind a line's text, or in its place: `?` where it is bad, `+` where it is long, `-` for a further piece, `!` where the
@@ -86,7 +86,7 @@ fn push_script(
     into: &mut String,
     alloc: Global,
     given: Option<Vec<u8>>,
-    world: &mut Pieces<'_>,
+    world: &mut PlainWorld<'_>,
 ) -> Result<(), AllocError> {
     let mut console = Console::new(alloc, given)?;
     for _ in 0..1000 {
@@ -144,7 +144,7 @@ fn push_read(
     into: &mut String,
     alloc: Global,
     is_given: bool,
-    world: &mut Pieces<'_>,
+    world: &mut PlainWorld<'_>,
 ) -> Result<(), AllocError> {
     push_script(into, alloc, given(alloc, is_given)?, world)?;
     write!(into, "{},{}", world.calls, world.reads_past_end)

@@ -1,6 +1,6 @@
 // Messages.
 use crate::line::words::{blank_word, short};
-use cms_cases::{number, push_ascii};
+use cms_cases::{Ascii, number};
 use cms_line::{Message, Word, write_message};
 use std::alloc::{AllocError, Global};
 
@@ -121,7 +121,7 @@ fn message(alloc: Global, case: &str) -> Result<Message, AllocError> {
 fn push_message(into: &mut String, alloc: Global, message: &Message) -> Result<(), AllocError> {
     let mut text = Vec::new(alloc);
     write_message(&mut text, message)?;
-    push_ascii(into, &text)
+    write!(into, "{}", Ascii(&text))
 }
 
 /// Adds the text of the message of a case.

@@ -1,6 +1,6 @@
 // Lines, their words and the options among them, written by hand.
 use crate::line::words::short;
-use cms_cases::push_ascii;
+use cms_cases::Ascii;
 use cms_line::{OptionRule, Token, Tokens, accepted_options, options, tokens};
 use cms_text::coded;
 use std::alloc::{AllocError, Global};
@@ -55,8 +55,8 @@ fn words_of(alloc: Global, line: &str) -> Result<Tokens, AllocError> {
 // Adds words with their places.
 fn push_places(into: &mut String, words: &[Token]) -> Result<(), AllocError> {
     for word in words {
-        push_ascii(into, word.text.bytes())?;
-        write!(into, " {}-{};", word.start, word.end)?;
+        let text = Ascii(word.text.bytes());
+        write!(into, "{text} {}-{};", word.start, word.end)?;
     }
     into.push('.')
 }

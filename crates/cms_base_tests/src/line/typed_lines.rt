@@ -1,6 +1,6 @@
 // Lines that are typed.
-use crate::line::pieces::{Pieces, in_pieces};
 use crate::line::words::blank_word;
+use crate::plain_world::{PlainWorld, in_pieces};
 use cms_cases::number;
 use cms_line::type_line;
 use std::alloc::{AllocError, Global};
@@ -30,7 +30,7 @@ const LINE: [u8; 8] = [0xC1, 0x81, 0xF0, 0x40, 0x5C, 0x00, 0x15, 0xFF];
 // Types a line of so many `A`, and says whether it is typed whole; adds what should be typed.
 fn type_letters(
     alloc: Global,
-    world: &mut Pieces<'_>,
+    world: &mut PlainWorld<'_>,
     wanted: &mut Vec<u8>,
     length: usize,
 ) -> Result<bool, AllocError> {
@@ -43,7 +43,7 @@ fn type_letters(
 // Types lines of these lengths, and says how many are typed whole.
 fn type_lines(
     alloc: Global,
-    world: &mut Pieces<'_>,
+    world: &mut PlainWorld<'_>,
     wanted: &mut Vec<u8>,
     lengths: &str,
 ) -> Result<u32, AllocError> {
@@ -60,7 +60,7 @@ fn type_lines(
 fn push_typing(
     into: &mut String,
     alloc: Global,
-    world: &mut Pieces<'_>,
+    world: &mut PlainWorld<'_>,
     wanted: &mut Vec<u8>,
     lengths: &str,
 ) -> Result<(), AllocError> {

@@ -166,35 +166,25 @@ fn bytes_of(alloc: Global, shape: &Made, image: &[u8]) -> Result<&'static str, A
     }
 }
 
-// Whether an image has the bytes of a volume of a shape, and what opens in it.
-fn held_in(
-    alloc: Global,
-    shape: &Made,
-    size: BlockSize,
-    image: &[u8],
-) -> Result<String, AllocError> {
-    let bytes = bytes_of(alloc, shape, image)?;
-    let opened = opened(alloc, image, size)?;
-    format!(in alloc; "{bytes}, {opened}")
-}
-
-// The same of what is left of the first unit of a world.
+// What was made on zeros, whether it has the bytes of a volume of a shape, and what opens in it.
 fn held_on(
     alloc: Global,
     shape: &Made,
     size: BlockSize,
     world: &MemWorld,
+    made: &str,
 ) -> Result<String, AllocError> {
     let image = image_left(alloc, world, world.events(), 0)?;
-    held_in(alloc, shape, size, &image)
+    let bytes = bytes_of(alloc, shape, &image)?;
+    let opened = opened(alloc, &image, size)?;
+    format!(in alloc; "{made}, {bytes}, {opened}")
 }
 
 // Makes a volume on zeros.
 fn made_on_zeros(alloc: Global, shape: &Made, size: BlockSize) -> Result<String, AllocError> {
     let mut world = zeros(alloc, shape)?;
     let made = made(alloc, &mut world, size)?;
-    let held = held_on(alloc, shape, size, &world)?;
-    format!(in alloc; "{made}, {held}")
+    held_on(alloc, shape, size, &world, made.as_str())
 }
 
 // A block of an image.
@@ -217,17 +207,21 @@ fn letter(found: &[u8], before: &[u8], after: &[u8]) -> char {
     }
 }
 
-// A letter for each of the nine blocks.
-fn letters(alloc: Global, found: &[u8], before: &[u8], after: &[u8]) -> Result<String, AllocError> {
-    let mut text = String::new(alloc);
+// Adds a letter for each of the nine blocks.
+fn push_letters(
+    into: &mut String,
+    found: &[u8],
+    before: &[u8],
+    after: &[u8],
+) -> Result<(), AllocError> {
     for number in 1..10 {
-        text.push(letter(
+        into.push(letter(
             block(found, number),
             block(before, number),
             block(after, number),
         ))?;
     }
-    Ok(text)
+    Ok(())
 }
 
 const SMALL: Made = Made {
@@ -237,22 +231,29 @@ const SMALL: Made = Made {
     pointers: 0,
 };
 
-// How the blocks are after so many events.
-fn blocks(alloc: Global, world: &MemWorld, at: usize) -> Result<String, AllocError> {
+// Adds how the blocks are after so many events.
+fn push_blocks(
+    into: &mut String,
+    alloc: Global,
+    world: &MemWorld,
+    at: usize,
+) -> Result<(), AllocError> {
     let before = image_named(alloc, "hello")?;
     let after = formatted(alloc, &SMALL)?;
-    letters(
-        alloc,
-        &image_left(alloc, world, at, u64::MAX)?,
-        &before,
-        &after,
-    )
+    let found = image_left(alloc, world, at, u64::MAX)?;
+    push_letters(into, &found, &before, &after)
+}
+
+// The same alone.
+fn blocks(alloc: Global, world: &MemWorld, at: usize) -> Result<String, AllocError> {
+    let mut text = String::new(alloc);
+    push_blocks(&mut text, alloc, world, at)?;
+    Ok(text)
 }
 
 // What was made, and the letters of all calls.
 fn calls(alloc: Global, world: &MemWorld, made: &str) -> Result<String, AllocError> {
-    let calls = calls_of(alloc, world)?;
-    format!(in alloc; "{made}, {calls}")
+    format!(in alloc; "{made}, {}", calls_of(world))
 }
 
 // What was made, how many events there are, and what opens then.

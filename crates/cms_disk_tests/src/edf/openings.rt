@@ -170,7 +170,7 @@ fn asked(alloc: Global, case: &str, held: &Held, world: &MemWorld) -> Result<Str
         "stored" => first_stored(alloc, held),
         "start" => told(alloc, &first_start(held)),
         "root" => told(alloc, &root_of(held, word(case, 2))),
-        "calls" => calls_of(alloc, world),
+        "calls" => String::from_str(alloc, calls_of(world)),
         _ => String::from_str(alloc, "it opens"),
     }
 }

@@ -37,8 +37,8 @@ pub fn state(alloc: Global, held: &Held) -> Result<String, AllocError> {
     } else {
         "another"
     };
-    let numbers = told(alloc, &(space.bsize, space.total, space.free, held.count()))?;
-    format!(in alloc; "{volume} {numbers}")
+    let numbers = (space.bsize, space.total, space.free, held.count());
+    format!(in alloc; "{volume} {numbers:?}")
 }
 
 /// The state of the volume that opens in an image, or why none does.

@@ -1,16 +1,15 @@
 // The editor, told what a session may tell it.
-use cms_cases::{Subject, push_ascii, try_rows};
+use cms_cases::Ascii;
 use cms_edit::Editor;
 use cms_ext::{ExtReply, ExtWant, Extension, Record, Records};
+use cms_names::Name;
 use cms_text::{LONGEST_TEXT, Line, Lines, ebcdic};
 use std::alloc::{AllocError, Global};
-use std::test::Fail;
 
-// What it is told: `E` and the rest of a line of EDIT, `S` and a subcommand of a procedure, `L` and a line of the loop, `F` and records, `W` that
-// its want is done, `C` and the code of a refusal. The answers are what it wants.
-const ROWS: &[(Edits, &str)] = &[(
-    Edits,
-    "E N NOTE;F ALPHA,BETA;S LOCATE BETA;S CHANGE /ET/OT/;S INPUT GAMMA;S SAVE;W => \
+/// What it is told: `E` and the rest of a line of EDIT, `S` and a subcommand of a procedure, `L` and a line of the loop, `F` and records, `W` that
+/// its want is done, `C` and the code of a refusal. The answers are what it wants.
+pub const ROWS: &str = "\
+E N NOTE;F ALPHA,BETA;S LOCATE BETA;S CHANGE /ET/OT/;S INPUT GAMMA;S SAVE;W => \
 get N NOTE 0;end 0;end 0;end 0;end 0;put N NOTE 0 ALPHA,BOTA,GAMMA;end 0
 E A B C;F ONE,TWO;S DELETE;S REPLACE X;S CHANGE /O/X/;S TYPE;S UP 3;S TYPE 2;W => \
 get A B 2;end 0;end 24;end 24;end 24;end 0;end 0;say ONE;end 0
@@ -44,12 +43,7 @@ E A B;F X;E A;S TYPE 2;W;E C D;F Y;S TYPE 2;W => \
 get A B 0;end 0;end 24;say X;end 0;get C D 0;end 0;say Y;end 0
 E A B;F A,B;S NEXT 0001;S NEXT 1 2;S NEXT X;S NEXT 1234567890;S UP 999999999;S TOPP;S TOP 1;S next;S TYPE;W => \
 get A B 0;end 0;end 0;end 24;end 24;end 24;end 0;end 24;end 24;end 0;say A;end 0
-W;F A;L X;C 28 => end 24;end 24;end 24;end 24",
-)];
-
-// The editor that rows are of.
-#[derive(Clone, Copy)]
-struct Edits;
+W;F A;L X;C 28 => end 24;end 24;end 24;end 24";
 
 // A text as a line.
 fn line_of(alloc: Global, text: &str) -> Result<Line, AllocError> {
@@ -82,94 +76,74 @@ fn records_of(alloc: Global, text: &str) -> Result<Records, AllocError> {
 // What it is told.
 fn reply_of(alloc: Global, step: &str) -> Result<ExtReply, AllocError> {
     let text = step.split_once(" ").map_or("", |parts| parts.1);
-    if step.starts_with("E") {
-        Ok(ExtReply::Start(edit_line(alloc, text)?))
-    } else if step.starts_with("S") {
-        Ok(ExtReply::Sub(line_of(alloc, text)?))
-    } else if step.starts_with("L") {
-        Ok(ExtReply::Got(line_of(alloc, text)?))
-    } else if step.starts_with("F") {
-        Ok(ExtReply::File(records_of(alloc, text)?))
-    } else if step.starts_with("C") {
-        Ok(ExtReply::Refused(text.parse().unwrap_or(0)))
-    } else {
-        Ok(ExtReply::Went)
+    match step.as_bytes().first() {
+        Some(b'E') => edit_line(alloc, text).map(ExtReply::Start),
+        Some(b'S') => line_of(alloc, text).map(ExtReply::Sub),
+        Some(b'L') => line_of(alloc, text).map(ExtReply::Got),
+        Some(b'F') => records_of(alloc, text).map(ExtReply::File),
+        Some(b'C') => Ok(ExtReply::Refused(text.parse().unwrap_or(0))),
+        _ => Ok(ExtReply::Went),
     }
 }
 
-// Adds lines with commas between.
-fn push_lines(into: &mut String, lines: &Lines) -> Result<(), AllocError> {
-    let mut between = "";
+// Adds lines, with a text before the first and commas between.
+fn push_lines(into: &mut String, first: &str, lines: &Lines) -> Result<(), AllocError> {
+    let mut before = first;
     for line in lines.as_slice() {
-        into.push_str(between)?;
-        push_ascii(into, line.bytes())?;
-        between = ",";
+        write!(into, "{before}{}", Ascii(line.bytes()))?;
+        before = ",";
     }
     Ok(())
 }
 
-// Adds records with commas between.
-fn push_records(into: &mut String, records: &Records) -> Result<(), AllocError> {
-    let mut between = "";
+// Adds records, with a text before the first and commas between.
+fn push_records(into: &mut String, first: &str, records: &Records) -> Result<(), AllocError> {
+    let mut before = first;
     for record in records.as_slice() {
-        into.push_str(between)?;
-        push_ascii(into, record.bytes())?;
-        between = ",";
+        write!(into, "{before}{}", Ascii(record.bytes()))?;
+        before = ",";
     }
     Ok(())
 }
 
-// Adds a file and the number of its letter.
-fn push_file(into: &mut String, file: &[u8], kind: &[u8], letter: u8) -> Result<(), AllocError> {
-    push_ascii(into, file)?;
-    into.push(' ')?;
-    push_ascii(into, kind)?;
-    into.push(' ')?;
-    into.push(char::from(b'0' + letter % 10))
+// Adds what is done with a file, its name, and the number of its letter.
+fn push_file(into: &mut String, what: &str, name: &Name, letter: u8) -> Result<(), AllocError> {
+    let (file, kind) = (Ascii(name.file.as_bytes()), Ascii(name.kind.as_bytes()));
+    write!(into, "{what} {file} {kind} {}", letter % 10)
 }
 
 // Adds what it wants.
-fn push_want(alloc: Global, into: &mut String, want: &ExtWant) -> Result<(), AllocError> {
+fn push_want(into: &mut String, want: &ExtWant) -> Result<(), AllocError> {
     match want {
-        ExtWant::Say(lines) => {
-            into.push_str("say ")?;
-            push_lines(into, lines)
-        }
+        ExtWant::Say(lines) => push_lines(into, "say ", lines),
         ExtWant::Ask => into.push_str("ask"),
-        ExtWant::Get(name, letter) => {
-            into.push_str("get ")?;
-            push_file(into, name.file.as_bytes(), name.kind.as_bytes(), *letter)
-        }
+        ExtWant::Get(name, letter) => push_file(into, "get", name, *letter),
         ExtWant::Put(name, letter, records) => {
-            into.push_str("put ")?;
-            push_file(into, name.file.as_bytes(), name.kind.as_bytes(), *letter)?;
-            into.push(' ')?;
-            push_records(into, records)
+            push_file(into, "put", name, *letter)?;
+            push_records(into, " ", records)
         }
-        ExtWant::Done(code) => {
-            into.push_str("end ")?;
-            into.push_str(code.to_string(alloc)?.as_str())
-        }
+        ExtWant::Done(code) => write!(into, "end {code}"),
     }
 }
 
-impl Subject for Edits {
-    fn answer(&self, alloc: Global, case: &str) -> Result<String, AllocError> {
-        let mut editor = Editor::new(alloc);
-        let mut found = String::new(alloc);
-        for step in case.split(";") {
-            let reply = reply_of(alloc, step)?;
-            let want = editor.turn(alloc, &reply)?;
-            if !found.is_empty() {
-                found.push(';')?;
-            }
-            push_want(alloc, &mut found, &want)?;
-        }
-        Ok(found)
-    }
+// Adds what it wants behind what it is told, and a semicolon before it where something stands there.
+fn push_step(
+    into: &mut String,
+    alloc: Global,
+    editor: &mut Editor,
+    step: &str,
+) -> Result<(), AllocError> {
+    let want = editor.turn(alloc, &reply_of(alloc, step)?)?;
+    into.push_str(if into.is_empty() { "" } else { ";" })?;
+    push_want(into, &want)
 }
 
-#[test]
-fn edits_have_their_answers(rt: HostRuntime) -> Result<(), Fail> {
-    try_rows(&rt, ROWS)
+/// What a case comes to.
+pub fn answer(alloc: Global, case: &str) -> Result<String, AllocError> {
+    let mut editor = Editor::new(alloc);
+    let mut found = String::new(alloc);
+    for step in case.split(";") {
+        push_step(&mut found, alloc, &mut editor, step)?;
+    }
+    Ok(found)
 }

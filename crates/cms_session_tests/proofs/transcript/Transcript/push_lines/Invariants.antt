@@ -1,7 +1,7 @@
 use Rattle.std.proofs.Common.{◌≡◌, ℕ, ◌+◌, ◌-◌, ◌*◌, ◌<◌, ◌≤◌, length}
 use denote.Text.{Utf8}
 use denote.Shadow.{shadow}
-use Rattle.cms_session_tests.proofs.transcript.Transcript.of.Given as goal
+use Rattle.cms_session_tests.proofs.transcript.Transcript.push_lines.Given as goal
 
 -- the name of the procedure is a text
 abbrev pub invariant-loop-line : goal.invariant-loop-line

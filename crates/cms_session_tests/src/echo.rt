@@ -2,7 +2,7 @@
 ghost use Rattle.std.specs.Prelude.{◌≡◌, [], ◌∷◌, IfOk};
 ghost use Rattle.cms_ext.specs.Exact.{exactly};
 ghost use Rattle.cms_ext.specs.declared.extension.ExtWant.TheVariants.{Say};
-ghost use Rattle.cms_ext_tests.specs.Echo.{echo};
+ghost use Rattle.cms_session_tests.specs.Echo.{echo};
 
 use cms_ext::{ExtReply, ExtWant, Extension};
 use cms_text::{Line, Lines};

@@ -1,0 +1,29 @@
+// The cases of extensions, and the test that tries them.
+use crate::{edits, lists};
+use cms_cases::{Subject, try_rows};
+use std::alloc::{AllocError, Global};
+use std::test::Fail;
+
+// Whose cases they are.
+#[derive(Clone, Copy)]
+enum Cases {
+    Edits,
+    Lists,
+}
+
+// The rows of each.
+const ROWS: &[(Cases, &str)] = &[(Cases::Edits, edits::ROWS), (Cases::Lists, lists::ROWS)];
+
+impl Subject for Cases {
+    fn answer(&self, alloc: Global, case: &str) -> Result<String, AllocError> {
+        match self {
+            Cases::Edits => edits::answer(alloc, case),
+            Cases::Lists => lists::answer(alloc, case),
+        }
+    }
+}
+
+#[test]
+fn edits_and_lists_have_their_answers(rt: HostRuntime) -> Result<(), Fail> {
+    try_rows(&rt, ROWS)
+}
