@@ -143,8 +143,8 @@ unfolding exec_operand needed given name text_of is_name_character ebcdic code_o
 refused_line = (refl, refl, refl, refl, refl, refl, refl)
 
 -- the file is read, which may fail, before it is known to be no procedure
-refused_file : (exec one 0 (codes "EXEC N") ≡ types (codes "CMS086E Exec N is not run, reason 1") 10101)
-    × (exec one 0 (codes "EXEC L") ≡ types (codes "CMS086E Exec L is not run, reason 2") 10102)
+refused_file : (exec one 0 (codes "EXEC N") ≡ types (codes "CMS086E Procedure N is not run, reason 1") 10101)
+    × (exec one 0 (codes "EXEC L") ≡ types (codes "CMS086E Procedure L is not run, reason 2") 10102)
     × (answer (exec_command 0 one (ebcdic (codes "EXEC N")) (words (codes "EXEC N"))) (ReadFault 0 ∷ []) ≡ types (codes "CMS105E Device fault on 191") 100)
 unfolding exec_operand needed given name text_of is_name_character ebcdic code_of code_page host_of upper_of character_of tokens_of tokens_from places_from file_named same_name same
     message_of message_text typed_line decimal_of written digits begins_with_trace procedure_of is_keyword begun with_arguments behind_name
@@ -160,7 +160,7 @@ called : (calls one 0 (codes " t a b") ≡ Some (runs (codes "A1") (codes "t a b
     × (calls one 0 (codes "T(X") ≡ Some (runs (codes "A1") (codes "T(X") (codes "(X") 1))
     × (calls one 0 (codes "X T") ≡ None)
     × (calls one 0 (codes "(T") ≡ None)
-    × (calls one 0 (codes "n") ≡ Some (types (codes "CMS086E Exec N is not run, reason 1") 10101))
+    × (calls one 0 (codes "n") ≡ Some (types (codes "CMS086E Procedure N is not run, reason 1") 10101))
     × (calls one 50 (codes "n") ≡ Some (types (codes "CMS120E Limit 5 reached") 40))
 unfolding needed given name text_of is_name_character ebcdic code_of code_page host_of upper_of character_of tokens_of tokens_from places_from file_named same_name same
     message_of message_text typed_line decimal_of written digits begins_with_trace procedure_of is_keyword begun with_arguments behind_name
