@@ -5,7 +5,7 @@ use Rattle.cms_search.proofs.StateCalls.{acts_starved}
 use Rattle.cms_files.specs.Files.{file_text}
 use Rattle.cms_files.proofs.Updates.{told_behind, told_never}
 use Rattle.cms_fileops.specs.Rename.{rename_file, renaming_of}
-use Rattle.cms_fileops.proofs.rename.RenamerFileUpdateTakenFile.update.Goals as goal
+use Rattle.cms_fileops.proofs.rename.RenamerFileUpdateListed.update.Goals as goal
 
 pub returns-in_err-text-clause-acts : goal.returns-in_err-text-clause-acts
 returns-in_err-text-clause-acts g c =
