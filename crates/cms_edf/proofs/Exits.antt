@@ -117,3 +117,6 @@ other_so_far before now r why h other told faults edges = record {
 
 pub memory_is_none : (why : OpenFault) → why ≡ failed.Memory → why ≡ failed.Device → ⊥
 memory_is_none why memory device = cc
+
+pub pointer_is_none : {holder value : ℕ} → failed.Pointer holder value ≡ failed.Device → ⊥
+pointer_is_none is = cc

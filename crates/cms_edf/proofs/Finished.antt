@@ -203,6 +203,15 @@ label_blocks units v volid label bytes bytes' same r has =
     let long : length bytes' ≡ v.disk.bsize = ap (λ (l : List ℕ). length l) same ∙ r.bytes_long in
     subst (λ (n : ℕ). HasBlocks units v.unit 3 n) (sym long) (fewer_on units v.unit 3 v.disk.count v.disk.bsize (omega arith) has)
 
+-- the blocks of an edit's volume are the unit's
+pub edit_blocks : (units : List Attached) (v : HeldVolume) (change : Change) (stamp : Stamp) (e e' : FileEdit) (s s' : Systems) → e' ≡ e → s' ≡ s → IsEditFor v change stamp e s
+    → HasBlocks units v.unit v.disk.count v.disk.bsize → HasBlocks units v.unit s'.label.blocks (length s'.label_bytes)
+edit_blocks units v change stamp e e' s s' same_e same_s p has =
+    let k = edit_keeps v change stamp e e' s s' same_e same_s p p.edit (subst (λ (y : FileEdit). DoesTo v.files y p.edit) (sym same_e) p.done) in
+    let at = k.within in
+    let long : length s'.label_bytes ≡ v.disk.bsize = ap (λ (y : Systems). length y.label_bytes) same_s ∙ p.label_long in
+    subst (λ (n : ℕ). HasBlocks units v.unit s'.label.blocks n) (sym long) (fewer_on units v.unit s'.label.blocks v.disk.count v.disk.bsize (omega (arith, at)) has)
+
 -- the volume of a plan is kept
 pub plan_keeps : (v : HeldVolume) (change : Change) (stamp : Stamp) (s : Step) → IsPlanFor v change stamp s → Keeps v
 plan_keeps v change stamp (step.Edit e s) p = p.ready.kept

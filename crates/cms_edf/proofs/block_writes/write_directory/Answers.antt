@@ -48,3 +48,21 @@ pub write_nodes-requires-clause-at : goal.write_nodes-requires-clause-at
 write_nodes-requires-clause-at g c =
     let written = c.deref-in-Ok.ensures.value ∙ ap (λ (p : TreePart). p.nodes) c.places.view_is in
     subst (AreAt c.args.target.now.total c.args.tree.now.pointers) (sym written) c.requires.nodes_at
+
+pub write_data-requires-clause-may : goal.write_data-requires-clause-may
+write_data-requires-clause-may g c = c.requires.may
+
+pub write_nodes-requires-clause-room : goal.write_nodes-requires-clause-room
+write_nodes-requires-clause-room g c = c.requires.room
+
+pub write_nodes-requires-clause-wide : goal.write_nodes-requires-clause-wide
+write_nodes-requires-clause-wide g c = c.requires.wide
+
+pub write_nodes-requires-clause-some : goal.write_nodes-requires-clause-some
+write_nodes-requires-clause-some g c = c.requires.some
+
+pub write_nodes-requires-clause-few : goal.write_nodes-requires-clause-few
+write_nodes-requires-clause-few g c = c.requires.few
+
+pub write_nodes-requires-clause-nodes : goal.write_nodes-requires-clause-nodes
+write_nodes-requires-clause-nodes g c = c.requires.nodes

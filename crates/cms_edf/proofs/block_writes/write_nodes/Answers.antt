@@ -1,4 +1,4 @@
-use Rattle.std.proofs.Common.{[], arith}
+use Rattle.std.proofs.Common.{[], arith, List, ℕ, length, ◌≤◌, ◌<◌, ◌^◌, ◌∙◌, inl, refl, subst, sym}
 use Rattle.cms_tree.specs.Builds.{node_at}
 use Rattle.cms_held.specs.Systems.{nodes_at}
 use Rattle.cms_world.specs.Seen.{seen}
@@ -40,3 +40,15 @@ returns g c =
     record {
       writes = all_made (show c.args.world.now) (show c.loop-nth.world) t (nodes_at t.bsize tree c.args.places.now) c.loop-nth.nth (omega arith) c.loop-nth.invariant.writes;
     }
+
+pub build-requires-clause-some : goal.build-requires-clause-some
+build-requires-clause-some g c = subst (λ (l : List ℕ). 1 ≤ length l) (sym c.leaves.ensures) c.requires.some
+
+pub build-requires-clause-few : goal.build-requires-clause-few
+build-requires-clause-few g c = subst (λ (l : List ℕ). length l < 2 ^ 32) (sym c.leaves.ensures) c.requires.few
+
+pub build-requires-clause-psize : goal.build-requires-clause-psize
+build-requires-clause-psize g c = inl refl
+
+pub build-requires-clause-room : goal.build-requires-clause-room
+build-requires-clause-room g c = c.loop-nth.auto.block ∙ c.requires.room

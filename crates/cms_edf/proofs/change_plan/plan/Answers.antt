@@ -1,11 +1,12 @@
 use Rattle.std.proofs.Common.{◌≡◌, Some, sym, subst}
 use Rattle.cms_held.specs.HeldVolumes.{HeldVolume}
-use Rattle.cms_model.specs.Changes as model
 use Rattle.cms_edf.specs.ChangePlans.{CanChange, IsPlanFor, IsStepOf, IsRelabelOf, change_of, place_in}
-use Rattle.cms_edf.specs.declared.change.Change as asked
-use Rattle.cms_edf.specs.declared.change.FileEdit.TheVariants as does
 use Rattle.cms_edf.specs.declared.step.Step.{Step}
 use Rattle.cms_edf.proofs.Planned.{century_for, drop_for, may_rename, relabel_for, rename_for, step_for}
+use Rattle.cms_edf.proofs.Exits.{ok_at_err}
+use Rattle.cms_model.specs.Changes as model
+use Rattle.cms_edf.specs.declared.change.Change as asked
+use Rattle.cms_edf.specs.declared.change.FileEdit.TheVariants as does
 use Rattle.cms_edf.proofs.change_plan.plan.Goals as goal
 use Rattle.cms_edf.proofs.change_plan.plan.Goals.{in-Drop+in_ok-step-in-Drop, in-Rename+in_ok-step-in-Rename, in-Relabel+in_ok-step-in-Relabel, in-Century+in_ok-step-in-Century}
 
@@ -51,3 +52,84 @@ returns-clause-planned c =
           (step_for v (model.Century pivot) (does.Century pivot) stamp w.in_ok-step-in-Century.step (λ s ready. century_for v pivot stamp s small ready) step))
           )
     ]
+
+pub returns-in_default-clause-volume : goal.returns-in_default-clause-volume
+returns-in_default-clause-volume c = c.reserve.ensures.volume
+
+pub returns-in_err-step-in-Drop-clause-volume : goal.returns-in_err-step-in-Drop-clause-volume
+returns-in_err-step-in-Drop-clause-volume c = c.reserve.ensures.volume
+
+pub returns-in_err-step-in-Rename-clause-volume : goal.returns-in_err-step-in-Rename-clause-volume
+returns-in_err-step-in-Rename-clause-volume c = c.reserve.ensures.volume
+
+pub returns-in_err-step-in-Relabel-clause-volume : goal.returns-in_err-step-in-Relabel-clause-volume
+returns-in_err-step-in-Relabel-clause-volume c = c.reserve.ensures.volume
+
+pub returns-in_err-step-in-Century-clause-volume : goal.returns-in_err-step-in-Century-clause-volume
+returns-in_err-step-in-Century-clause-volume c = c.reserve.ensures.volume
+
+pub returns-clause-volume : goal.returns-clause-volume
+returns-clause-volume c = c.reserve.ensures.volume
+
+pub returns-in_default-clause-places : goal.returns-in_default-clause-places
+returns-in_default-clause-places c = c.reserve.ensures.places
+
+pub returns-in_err-step-in-Drop-clause-places : goal.returns-in_err-step-in-Drop-clause-places
+returns-in_err-step-in-Drop-clause-places c = c.reserve.ensures.places
+
+pub returns-in_err-step-in-Rename-clause-places : goal.returns-in_err-step-in-Rename-clause-places
+returns-in_err-step-in-Rename-clause-places c = c.reserve.ensures.places
+
+pub returns-in_err-step-in-Relabel-clause-places : goal.returns-in_err-step-in-Relabel-clause-places
+returns-in_err-step-in-Relabel-clause-places c = c.reserve.ensures.places
+
+pub returns-in_err-step-in-Century-clause-places : goal.returns-in_err-step-in-Century-clause-places
+returns-in_err-step-in-Century-clause-places c = c.reserve.ensures.places
+
+pub returns-clause-places : goal.returns-clause-places
+returns-clause-places c = c.reserve.ensures.places
+
+pub returns-in_default-clause-kept : goal.returns-in_default-clause-kept
+returns-in_default-clause-kept c = c.reserve.ensures.kept
+
+pub returns-in_err-step-in-Drop-clause-kept : goal.returns-in_err-step-in-Drop-clause-kept
+returns-in_err-step-in-Drop-clause-kept c = c.reserve.ensures.kept
+
+pub returns-in_err-step-in-Rename-clause-kept : goal.returns-in_err-step-in-Rename-clause-kept
+returns-in_err-step-in-Rename-clause-kept c = c.reserve.ensures.kept
+
+pub returns-in_err-step-in-Relabel-clause-kept : goal.returns-in_err-step-in-Relabel-clause-kept
+returns-in_err-step-in-Relabel-clause-kept c = c.reserve.ensures.kept
+
+pub returns-in_err-step-in-Century-clause-kept : goal.returns-in_err-step-in-Century-clause-kept
+returns-in_err-step-in-Century-clause-kept c = c.reserve.ensures.kept
+
+pub returns-clause-kept : goal.returns-clause-kept
+returns-clause-kept c = c.reserve.ensures.kept
+
+pub returns-clause-spare : goal.returns-clause-spare
+returns-clause-spare c = c.in-Ok.ensures.spare
+
+pub returns-in_err-step-in-Drop-clause-planned : goal.returns-in_err-step-in-Drop-clause-planned
+returns-in_err-step-in-Drop-clause-planned c = ok_at_err _ c.from_residual.result _ c.from_residual.ensures.1
+
+pub returns-in_err-step-in-Drop-clause-spare : goal.returns-in_err-step-in-Drop-clause-spare
+returns-in_err-step-in-Drop-clause-spare c = ok_at_err _ c.from_residual.result _ c.from_residual.ensures.1
+
+pub returns-in_err-step-in-Rename-clause-planned : goal.returns-in_err-step-in-Rename-clause-planned
+returns-in_err-step-in-Rename-clause-planned c = ok_at_err _ c.from_residual-in_err-step-in-Rename.result _ c.from_residual-in_err-step-in-Rename.ensures.1
+
+pub returns-in_err-step-in-Rename-clause-spare : goal.returns-in_err-step-in-Rename-clause-spare
+returns-in_err-step-in-Rename-clause-spare c = ok_at_err _ c.from_residual-in_err-step-in-Rename.result _ c.from_residual-in_err-step-in-Rename.ensures.1
+
+pub returns-in_err-step-in-Relabel-clause-planned : goal.returns-in_err-step-in-Relabel-clause-planned
+returns-in_err-step-in-Relabel-clause-planned c = ok_at_err _ c.from_residual-in_err-step-in-Relabel.result _ c.from_residual-in_err-step-in-Relabel.ensures.1
+
+pub returns-in_err-step-in-Relabel-clause-spare : goal.returns-in_err-step-in-Relabel-clause-spare
+returns-in_err-step-in-Relabel-clause-spare c = ok_at_err _ c.from_residual-in_err-step-in-Relabel.result _ c.from_residual-in_err-step-in-Relabel.ensures.1
+
+pub returns-in_err-step-in-Century-clause-planned : goal.returns-in_err-step-in-Century-clause-planned
+returns-in_err-step-in-Century-clause-planned c = ok_at_err _ c.from_residual-in_err-step-in-Century.result _ c.from_residual-in_err-step-in-Century.ensures.1
+
+pub returns-in_err-step-in-Century-clause-spare : goal.returns-in_err-step-in-Century-clause-spare
+returns-in_err-step-in-Century-clause-spare c = ok_at_err _ c.from_residual-in_err-step-in-Century.result _ c.from_residual-in_err-step-in-Century.ensures.1

@@ -1,4 +1,4 @@
-use Rattle.std.proofs.Common.{◌≡◌, List, length, position, Result, Err, OnOk, sym, ◌∙◌, ap, subst}
+use Rattle.std.proofs.Common.{◌≡◌, List, length, position, Result, Err, OnOk, sym, ◌∙◌, ap, subst, refl}
 use Rattle.std.specs.Prelude.{⊤}
 use Rattle.cms_journal.specs.Journal.{HasBlocks, IsBlockSize, IsWritable}
 use Rattle.cms_journal.specs.declared.event.Attached.{Attached}
@@ -13,7 +13,7 @@ use Rattle.cms_held.specs.Systems.{system_writes}
 use Rattle.cms_model.specs.Settled.{writes}
 use Rattle.cms_held.proofs.Fronts.{on_ok}
 use Rattle.cms_draft.specs.BlockWriters.{its_blocks}
-use Rattle.cms_draft.specs.FileWriters.{start_in}
+use Rattle.cms_draft.specs.FileWriters.{start_in, IsDrafting}
 use Rattle.cms_draft.specs.declared.shape.DraftShape.{DraftShape}
 use Rattle.cms_edf.specs.FileDrafts.{Draft, IsCommitted, IsSomeDraft, LeadsToFile, file_for, list_with, put_in, tree_of}
 use Rattle.cms_edf.specs.declared.doubt.Doubt.{Doubt}
@@ -209,3 +209,18 @@ returns-in-Ok-clause-grown g c =
 
 pub returns-in-Err-clause-grown : goal.returns-in-Err-clause-grown
 returns-in-Err-clause-grown g c = let own = c.finish.ensures.own in record { events = writes c.draft.inside.writer.writer.unit own.part; told = own.told }
+
+pub returns-in-Ok-clause-kept : goal.returns-in-Ok-clause-kept
+returns-in-Ok-clause-kept g c = c.carry_file.ensures.kept
+
+pub carry_file-requires-clause-room : goal.carry_file-requires-clause-room
+carry_file-requires-clause-room g c = c.requires.room
+
+pub returns-in-Ok-clause-sound : goal.returns-in-Ok-clause-sound
+returns-in-Ok-clause-sound g c = subst (λ (d : Draft). IsDrafting d.writer) c.draft.view_is c.in-Ok.ensures.kept
+
+pub returns-in-Err-clause-sound : goal.returns-in-Err-clause-sound
+returns-in-Err-clause-sound g c = subst (λ (d : Draft). IsDrafting d.writer) c.draft.view_is c.in-Err.ensures.kept
+
+pub returns-in-Err-clause-kept : goal.returns-in-Err-clause-kept
+returns-in-Err-clause-kept g c = refl

@@ -4,6 +4,7 @@ use Rattle.cms_held.specs.EmptyVolumes.{MakePlan, IsEmptyVolume}
 use Rattle.cms_held.proofs.Allotted.{map_small, nodes_few}
 use Rattle.cms_held.proofs.Made.{made_kept}
 use Rattle.cms_edf.proofs.NewSystems.{made_ready}
+use Rattle.cms_edf.proofs.Exits.{ok_at_err}
 use Rattle.cms_edf.proofs.empty_volume.plan_make.Goals as goal
 
 pub of_whole-requires-2-clause-few_nodes : goal.of_whole-requires-2-clause-few_nodes
@@ -47,3 +48,63 @@ invariant_of-result c = made_ready (made c) c.args.volid c.args.stamp.now (empty
 pub invariant_of-result-2 : goal.invariant_of-result-2
 unfolding made
 invariant_of-result-2 c = (made_kept (made c) [] (empty c) refl, search rules)
+
+pub returns-in_err-tree-clause-unit : goal.returns-in_err-tree-clause-unit
+returns-in_err-tree-clause-unit c = ok_at_err _ c.from_residual.result _ c.from_residual.ensures.1
+
+pub returns-in_err-tree-clause-disk : goal.returns-in_err-tree-clause-disk
+returns-in_err-tree-clause-disk c = ok_at_err _ c.from_residual.result _ c.from_residual.ensures.1
+
+pub returns-in_err-tree-clause-empty : goal.returns-in_err-tree-clause-empty
+returns-in_err-tree-clause-empty c = ok_at_err _ c.from_residual.result _ c.from_residual.ensures.1
+
+pub returns-in_err-label_bytes-clause-unit : goal.returns-in_err-label_bytes-clause-unit
+returns-in_err-label_bytes-clause-unit c = ok_at_err _ c.from_residual-in_err-label_bytes.result _ c.from_residual-in_err-label_bytes.ensures.1
+
+pub returns-in_err-label_bytes-clause-disk : goal.returns-in_err-label_bytes-clause-disk
+returns-in_err-label_bytes-clause-disk c = ok_at_err _ c.from_residual-in_err-label_bytes.result _ c.from_residual-in_err-label_bytes.ensures.1
+
+pub returns-in_err-label_bytes-clause-empty : goal.returns-in_err-label_bytes-clause-empty
+returns-in_err-label_bytes-clause-empty c = ok_at_err _ c.from_residual-in_err-label_bytes.result _ c.from_residual-in_err-label_bytes.ensures.1
+
+pub returns-in_err-directory-clause-unit : goal.returns-in_err-directory-clause-unit
+returns-in_err-directory-clause-unit c = ok_at_err _ c.from_residual-in_err-directory.result _ c.from_residual-in_err-directory.ensures.1
+
+pub returns-in_err-directory-clause-disk : goal.returns-in_err-directory-clause-disk
+returns-in_err-directory-clause-disk c = ok_at_err _ c.from_residual-in_err-directory.result _ c.from_residual-in_err-directory.ensures.1
+
+pub returns-in_err-directory-clause-empty : goal.returns-in_err-directory-clause-empty
+returns-in_err-directory-clause-empty c = ok_at_err _ c.from_residual-in_err-directory.result _ c.from_residual-in_err-directory.ensures.1
+
+pub returns-in_err-directory_bytes-clause-unit : goal.returns-in_err-directory_bytes-clause-unit
+returns-in_err-directory_bytes-clause-unit c = ok_at_err _ c.from_residual-in_err-directory_bytes.result _ c.from_residual-in_err-directory_bytes.ensures.1
+
+pub returns-in_err-directory_bytes-clause-disk : goal.returns-in_err-directory_bytes-clause-disk
+returns-in_err-directory_bytes-clause-disk c = ok_at_err _ c.from_residual-in_err-directory_bytes.result _ c.from_residual-in_err-directory_bytes.ensures.1
+
+pub returns-in_err-directory_bytes-clause-empty : goal.returns-in_err-directory_bytes-clause-empty
+returns-in_err-directory_bytes-clause-empty c = ok_at_err _ c.from_residual-in_err-directory_bytes.result _ c.from_residual-in_err-directory_bytes.ensures.1
+
+pub returns-in_err-directory_part-clause-unit : goal.returns-in_err-directory_part-clause-unit
+returns-in_err-directory_part-clause-unit c = ok_at_err _ c.from_residual-in_err-directory_part.result _ c.from_residual-in_err-directory_part.ensures.1
+
+pub returns-in_err-directory_part-clause-disk : goal.returns-in_err-directory_part-clause-disk
+returns-in_err-directory_part-clause-disk c = ok_at_err _ c.from_residual-in_err-directory_part.result _ c.from_residual-in_err-directory_part.ensures.1
+
+pub returns-in_err-directory_part-clause-empty : goal.returns-in_err-directory_part-clause-empty
+returns-in_err-directory_part-clause-empty c = ok_at_err _ c.from_residual-in_err-directory_part.result _ c.from_residual-in_err-directory_part.ensures.1
+
+pub returns-in_err-map_part-clause-unit : goal.returns-in_err-map_part-clause-unit
+returns-in_err-map_part-clause-unit c = ok_at_err _ c.from_residual-in_err-map_part.result _ c.from_residual-in_err-map_part.ensures.1
+
+pub returns-in_err-map_part-clause-disk : goal.returns-in_err-map_part-clause-disk
+returns-in_err-map_part-clause-disk c = ok_at_err _ c.from_residual-in_err-map_part.result _ c.from_residual-in_err-map_part.ensures.1
+
+pub returns-in_err-map_part-clause-empty : goal.returns-in_err-map_part-clause-empty
+returns-in_err-map_part-clause-empty c = ok_at_err _ c.from_residual-in_err-map_part.result _ c.from_residual-in_err-map_part.ensures.1
+
+pub returns-clause-unit : goal.returns-clause-unit
+returns-clause-unit c = refl
+
+pub returns-clause-disk : goal.returns-clause-disk
+returns-clause-disk c = refl

@@ -1,7 +1,7 @@
 use Rattle.std.proofs.Common.{◌≡◌, ℕ, List, Result, Ok, Err, OnOk, OnErr, Vec, Global, refl, sym, ◌∙◌, subst}
-use Rattle.cms_edf.specs.ChangePlans.{IsPlanFor, MayEdit}
-use Rattle.cms_edf.proofs.Finished.{IsCarried, carries_out, edit_carried, edit_keeps, label_blocks, label_keeps, label_out}
 use Rattle.std.specs.Prelude.{IfErr, ⊤}
+use Rattle.cms_edf.specs.ChangePlans.{IsPlanFor, MayEdit}
+use Rattle.cms_edf.proofs.Finished.{IsCarried, carries_out, edit_carried, edit_keeps, label_blocks, label_keeps, label_out, edit_blocks}
 use Rattle.cms_journal.specs.declared.event.Event.TheVariants.{Wrote}
 use Rattle.cms_journal.specs.Journal.{MayAdd}
 use Rattle.cms_journal.specs.Told.{Told, plus}
@@ -130,3 +130,10 @@ returns-in-Relabel-clause-kept g c = c.carry_label.ensures.kept
 
 pub returns-in-Relabel-clause-counts : goal.returns-in-Relabel-clause-counts
 returns-in-Relabel-clause-counts g c = c.carry_label.ensures.counts
+
+pub carry_edit-requires-clause-blocks : goal.carry_edit-requires-clause-blocks
+carry_edit-requires-clause-blocks g c = λ j told.
+    let p = c.requires.plan in
+    let same = sym c.plan.view_is ∙ c.in-Edit.is in
+    edit_blocks j.units c.args.held.now.volume p.change p.stamp c.in-Edit.edit _ c.in-Edit.systems _ c.in-Edit.edit-is c.in-Edit.systems-is (subst (IsPlanFor c.args.held.now.volume p.change p.stamp) same p.is)
+    (c.requires.blocks j told)

@@ -21,3 +21,9 @@ returns-in-Some-clause-kept c = subst (λ (h : Held). Keeps h.volume) c.held.vie
 
 pub returns-in-None-clause-kept : goal.returns-in-None-clause-kept
 returns-in-None-clause-kept c = subst (λ (h : Held). Keeps h.volume) c.held.view_is c.held.invariant.kept
+
+pub returns-in-Some-clause-spelled : goal.returns-in-Some-clause-spelled
+returns-in-Some-clause-spelled c = c.spell_entry.ensures
+
+pub returns-in-None-clause-spelled : goal.returns-in-None-clause-spelled
+returns-in-None-clause-spelled c = c.spell_entry.ensures

@@ -1,4 +1,4 @@
-use Rattle.std.proofs.Common.{◌++◌, Result, length, ap, subst}
+use Rattle.std.proofs.Common.{◌++◌, Result, length, ap, subst, inl, refl, List, ℕ, ◌∙◌}
 use Rattle.std.specs.Prelude.{⊤}
 use Rattle.cms_journal.specs.declared.event.Failed.{Failed}
 use Rattle.cms_world.specs.Seen.{Seen, seen}
@@ -8,6 +8,7 @@ use Rattle.cms_edf.specs.BlockWrites.{MayWrite, Writes}
 use Rattle.cms_edf.specs.Doubts.{directory_writes, map_writes, first_writes, target_of}
 use Rattle.cms_edf.proofs.SystemsWritten.{held_made, target_held}
 use Rattle.cms_edf.proofs.WritesMade.{then_made, first_failed, same_made}
+use Rattle.cms_tree.proofs.BuiltTrees.{fan_wide}
 use Rattle.cms_edf.proofs.system_blocks.Systems.write.Given as given
 use Rattle.cms_edf.proofs.system_blocks.Systems.write.Goals as goal
 use Rattle.cms_edf.proofs.system_blocks.Systems.write.Goals.{After-write_directory}
@@ -64,3 +65,54 @@ returns-in-Ok-write_map_tree g c =
       writes = written g at _ _ (then_made _ one _ (target g at) _ _ _ (directory_done g at _ c.in-Ok.ensures.writes)
           (then_made one two _ (target g at) _ _ _ c.in-Ok-write_map_tree.ensures.writes (same_made two _ (target g at) _ _ _ is_last c.write_first.ensures.writes)));
     }
+
+pub write_directory-requires-clause-wide : goal.write_directory-requires-clause-wide
+write_directory-requires-clause-wide g c = fan_wide c.self.inside.bsize 4 c.self.invariant.size (inl refl)
+
+pub write_map_tree-requires-clause-wide : goal.write_map_tree-requires-clause-wide
+write_map_tree-requires-clause-wide g c = fan_wide c.self.inside.bsize 4 c.self.invariant.size (inl refl)
+
+pub write_directory-requires-clause-some : goal.write_directory-requires-clause-some
+write_directory-requires-clause-some g c = c.self.invariant.directory_some
+
+pub write_directory-requires-clause-few : goal.write_directory-requires-clause-few
+write_directory-requires-clause-few g c = c.self.invariant.directory_few
+
+pub write_directory-requires-clause-nodes : goal.write_directory-requires-clause-nodes
+write_directory-requires-clause-nodes g c = c.self.invariant.directory_nodes
+
+pub write_directory-requires-clause-first : goal.write_directory-requires-clause-first
+write_directory-requires-clause-first g c = c.self.invariant.directory_first
+
+pub write_first-requires-clause-first : goal.write_first-requires-clause-first
+write_first-requires-clause-first g c = c.self.invariant.directory_first
+
+pub write_directory-requires-clause-long : goal.write_directory-requires-clause-long
+write_directory-requires-clause-long g c = ap (λ (l : List ℕ). length l) c.deref.ensures.value ∙ c.self.invariant.directory_long
+
+pub write_directory-requires-clause-at : goal.write_directory-requires-clause-at
+write_directory-requires-clause-at g c = c.self.invariant.directory_at
+
+pub write_first-requires-clause-at : goal.write_first-requires-clause-at
+write_first-requires-clause-at g c = c.self.invariant.directory_at
+
+pub write_directory-requires-clause-nodes_at : goal.write_directory-requires-clause-nodes_at
+write_directory-requires-clause-nodes_at g c = c.self.invariant.directory_nodes_at
+
+pub write_map_tree-requires-clause-some : goal.write_map_tree-requires-clause-some
+write_map_tree-requires-clause-some g c = c.self.invariant.map_some
+
+pub write_map_tree-requires-clause-nodes : goal.write_map_tree-requires-clause-nodes
+write_map_tree-requires-clause-nodes g c = c.self.invariant.map_nodes
+
+pub write_map_tree-requires-clause-short : goal.write_map_tree-requires-clause-short
+write_map_tree-requires-clause-short g c = c.self.invariant.map_few
+
+pub write_map_tree-requires-clause-at : goal.write_map_tree-requires-clause-at
+write_map_tree-requires-clause-at g c = c.self.invariant.map_at
+
+pub write_map_tree-requires-clause-nodes_at : goal.write_map_tree-requires-clause-nodes_at
+write_map_tree-requires-clause-nodes_at g c = c.self.invariant.map_nodes_at
+
+pub write_first-requires-clause-long : goal.write_first-requires-clause-long
+write_first-requires-clause-long g c = ap (λ (l : List ℕ). length l) c.deref-in-Ok-write_map_tree.ensures.value ∙ c.self.invariant.directory_long
