@@ -52,7 +52,9 @@ fn text_of(alloc: Global, message: Message) -> Result<Vec<u8>, AllocError>
     ensures { IfOk result (λ text. text.items ≡ message_text message) }
 {
     let mut text = Vec::new(alloc);
-    write_message(&mut text, &message)?;
+    let written = write_message(&mut text, &message);
+    drop(message);
+    written?;
     Ok(text)
 }
 
