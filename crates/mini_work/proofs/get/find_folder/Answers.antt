@@ -1,5 +1,5 @@
 use Rattle.mini_work.proofs.Caused.{cause_done, cause_fails, cause_then, later_same}
-use Rattle.std.proofs.Common.{◌≡◌, ◌∙◌, false, rules, sym}
+use Rattle.std.proofs.Common.{◌≡◌, ◌∙◌, false, sym}
 use Rattle.mini_work.proofs.Hosted.{same_then, same_told}
 use Rattle.mini_work.proofs.KeptOut.{files_known, no_folder}
 use Rattle.mini_work.proofs.get.find_folder.Goals as goal
@@ -9,7 +9,7 @@ returns-then-there-clause-files g c = same_told (g.H.Host.told c.args.host.now) 
 
 pub returns-clause-none : goal.returns-clause-none
 returns-clause-none g c =
-    let no : c.in_ok-there.there ≡ false = search rules in
+    let no : c.in_ok-there.there ≡ false = c.if-there.false in
     no_folder (g.H.Host.told c.args.host.now) c.args.folder.now c.bar.result (λ f at. sym (c.in_ok-there.ensures.folder f at) ∙ no)
 
 pub returns-clause-files : goal.returns-clause-files

@@ -1,6 +1,6 @@
 use Rattle.mini_work.specs.Causes.{counts}
 use Rattle.mini_work.proofs.Caused.{end_fails, end_refused, end_then, later_same}
-use Rattle.std.proofs.Common.{◌≡◌, false, rules}
+use Rattle.std.proofs.Common.{◌≡◌, false}
 use Rattle.std.proofs.lemmas.Result.{err_from_is_err_and}
 use Rattle.mini_work.specs.Gets.{IsGotEach, OnHost}
 use Rattle.mini_work.proofs.GotOut.{each_absent, each_on}
@@ -14,7 +14,7 @@ returns-in_err-there-clause-goes g c =
 
 pub returns-then-not-there-clause-goes : goal.returns-then-not-there-clause-goes
 returns-then-not-there-clause-goes g c =
-    let no : c.in_ok-there.there ≡ false = search rules in
+    let no : c.in_ok-there.there ≡ false = c.if-not-there.true in
     each_absent (g.H.Host.told c.args.host.now) (g.H.Host.told c.find_folder.new.host) c.args.get.now c.args.folder.now c.args.names.now _ c.args.disk.now
     (c.in_ok-there.ensures.none no) c.in_ok-there.ensures.files
 

@@ -1,6 +1,6 @@
 use Rattle.mini_work.proofs.Caused.{end_fails, end_refused, end_then, host_later, later_same, later_then, end_keeps}
 use Rattle.mini_work.specs.Causes.{counts}
-use Rattle.std.proofs.Common.{◌≡◌, ◌∙◌, inl, inr, Bool, List, ℕ, Err, Ok, false, true, rules, subst, sym, arith}
+use Rattle.std.proofs.Common.{◌≡◌, ◌∙◌, inl, inr, Bool, List, ℕ, Err, Ok, false, true, subst, sym, arith}
 use Rattle.std.proofs.lemmas.Result.{err_from_is_err_and}
 use Rattle.cms_names.specs.declared.name.Name.{Name}
 use Rattle.mini_work.specs.CommandActs.{Continues}
@@ -16,7 +16,7 @@ write_all-requires-clause-begun g c =
     let host = g.H.Host.told in
     let h = host c.find_folder.new.host in
     let k = host c.begin_file.new.host in
-    let yes : c.in_ok-begun.begun ≡ true = search rules in
+    let yes : c.in_ok-begun.begun ≡ true = c.if-not-begun.false in
     begun_is h k c.args.get.now c.args.file.now (subst (λ (b : Bool). Begins h k c.args.get.now c.args.file.now b) yes c.in_ok-begun.ensures.goes)
 
 pub keep_file-requires : goal.keep_file-requires
@@ -33,7 +33,7 @@ pub returns-then-not-there-clause-goes : goal.returns-then-not-there-clause-goes
 returns-then-not-there-clause-goes g c =
     let host = g.H.Host.told in
     let h = host c.args.host.now in
-    let no : c.in_ok-there.there ≡ false = search rules in
+    let no : c.in_ok-there.there ≡ false = c.if-not-there.true in
     joined_barred c.args.get.now c.args.file.now c.args.names.now (g.W.World.told c.args.world.now) c.args.disk.now h (host c.find_folder.new.host)
     (inl (subst (λ (folder : List ℕ). HasNoFolder h folder) c.folder_of-folder.ensures (c.in_ok-there.ensures.none no))) c.in_ok-there.ensures.files
 
@@ -52,7 +52,7 @@ returns-then-not-begun-clause-goes g c =
     let k = host c.begin_file.new.host in
     let get = c.args.get.now in
     let file = c.args.file.now in
-    let no : c.in_ok-begun.begun ≡ false = search rules in
+    let no : c.in_ok-begun.begun ≡ false = c.if-not-begun.true in
     let b = subst (λ (x : Bool). Begins f k get file x) no c.in_ok-begun.ensures.goes in
     joined_barred get file c.args.names.now (g.W.World.told c.args.world.now) c.args.disk.now h k
     (inr (barred_from h f get file c.in_ok-there.ensures.files b.0)) (same_then h f k c.in_ok-there.ensures.files b.1)
@@ -88,8 +88,8 @@ returns-then-not-kept-clause-goes g c =
     let k = host c.keep_file.new.host in
     let get = c.args.get.now in
     let file = c.args.file.now in
-    let yes : c.in_ok-begun.begun ≡ true = search rules in
-    let no : c.in_ok-kept.kept ≡ false = search rules in
+    let yes : c.in_ok-begun.begun ≡ true = c.if-not-begun.false in
+    let no : c.in_ok-kept.kept ≡ false = c.if-not-kept.true in
     let begun = subst (λ (x : Bool). Begins f b get file x) yes c.in_ok-begun.ensures.goes in
     let kept = subst (λ (x : Bool). Keeps w k x) no c.in_ok-kept.ensures.goes in
     let same = same_then h f w c.in_ok-there.ensures.files (same_then f b w (same_begun f b file get.replaces begun) c.in_ok-status.ensures.files) in
@@ -108,7 +108,7 @@ returns-then-is_empty-clause-goes g c =
     let get = c.args.get.now in
     let file = c.args.file.now in
     let names = c.args.names.now in
-    let yes : c.in_ok-begun.begun ≡ true = search rules in
+    let yes : c.in_ok-begun.begun ≡ true = c.if-not-begun.false in
     let begun = subst (λ (x : Bool). Begins f b get file x) yes c.in_ok-begun.ensures.goes in
     let same = same_then h f w c.in_ok-there.ensures.files (same_then f b w (same_begun f b file get.replaces begun) c.in_ok-status.ensures.files) in
     joined_none get file names (told c.args.world.now) (told c.write_all.new.world) c.args.disk.now h w b c.write_all.new.written c.in_ok-status.status
@@ -153,8 +153,8 @@ returns-clause-goes g c =
     let get = c.args.get.now in
     let file = c.args.file.now in
     let names = c.args.names.now in
-    let yes : c.in_ok-begun.begun ≡ true = search rules in
-    let whole : c.in_ok-kept.kept ≡ true = search rules in
+    let yes : c.in_ok-begun.begun ≡ true = c.if-not-begun.false in
+    let whole : c.in_ok-kept.kept ≡ true = c.if-not-kept.false in
     let begun = subst (λ (x : Bool). Begins f b get file x) yes c.in_ok-begun.ensures.goes in
     let kept = subst (λ (x : Bool). Keeps w k x) whole c.in_ok-kept.ensures.goes in
     joined_some get file names (told c.args.world.now) (told c.write_all.new.world) (told c.say_names.new.world) d h f b w k c.write_all.new.written

@@ -18,7 +18,7 @@ get_one-requires-clause-begun g c = λ is.
     let host = g.H.Host.told in
     let h = host c.args.host.now in
     let k = host c.begin_file.new.host in
-    let yes : c.in_ok-begun.begun ≡ true = search rules in
+    let yes : c.in_ok-begun.begun ≡ true = c.if-not-begun.false in
     begun_is h k c.args.get.now c.args.path.now (subst (λ (b : Bool). Begins h k c.args.get.now c.args.path.now b) yes c.in_ok-begun.ensures.goes)
 
 pub keep_file-requires : goal.keep_file-requires
@@ -40,14 +40,14 @@ returns-then-not-begun-clause-goes g c =
     let host = g.H.Host.told in
     let h = host c.args.host.now in
     let k = host c.begin_file.new.host in
-    let no : c.in_ok-begun.begun ≡ false = search rules in
+    let no : c.in_ok-begun.begun ≡ false = c.if-not-begun.true in
     let b = subst (λ (x : Bool). Begins h k c.args.get.now c.args.path.now x) no c.in_ok-begun.ensures.goes in
     got_still c.args.get.now c.args.path.now c.args.name.now (g.W.World.told c.args.world.now) (g.W.World.told c.args.world.now) c.args.disk.now h k (λ m s. refl) b.1
 
 pub returns-then-not-begun-clause-refused : goal.returns-then-not-begun-clause-refused
 returns-then-not-begun-clause-refused g c = λ m s.
     let host = g.H.Host.told in
-    let no : c.in_ok-begun.begun ≡ false = search rules in
+    let no : c.in_ok-begun.begun ≡ false = c.if-not-begun.true in
     let b = subst (λ (x : Bool). Begins (host c.args.host.now) (host c.begin_file.new.host) c.args.get.now c.args.path.now x) no c.in_ok-begun.ensures.goes in
     inr b.0
 
@@ -97,8 +97,8 @@ returns-then-not-kept-clause-goes g c =
     let k = host c.keep_file.new.host in
     let get = c.args.get.now in
     let path = c.args.path.now in
-    let yes : c.in_ok-begun.begun ≡ true = search rules in
-    let no : c.in_ok-kept.kept ≡ false = search rules in
+    let yes : c.in_ok-begun.begun ≡ true = c.if-not-begun.false in
+    let no : c.in_ok-kept.kept ≡ false = c.if-not-kept.true in
     let begun = subst (λ (x : Bool). Begins h b get path x) yes c.in_ok-begun.ensures.goes in
     let kept = subst (λ (x : Bool). Keeps w k x) no c.in_ok-kept.ensures.goes in
     let same = same_then h b w (same_begun h b path get.replaces begun) c.in_ok-other.ensures.files in
@@ -116,8 +116,8 @@ returns-then-not-kept-clause-refused g c = λ m s.
     let k = host c.keep_file.new.host in
     let get = c.args.get.now in
     let path = c.args.path.now in
-    let yes : c.in_ok-begun.begun ≡ true = search rules in
-    let no : c.in_ok-kept.kept ≡ false = search rules in
+    let yes : c.in_ok-begun.begun ≡ true = c.if-not-begun.false in
+    let no : c.in_ok-kept.kept ≡ false = c.if-not-kept.true in
     let begun = subst (λ (x : Bool). Begins h b get path x) yes c.in_ok-begun.ensures.goes in
     let kept = subst (λ (x : Bool). Keeps w k x) no c.in_ok-kept.ensures.goes in
     inr (never_barred h w get path kept.0 (same_then h b w (same_begun h b path get.replaces begun) c.in_ok-other.ensures.files))
@@ -134,8 +134,8 @@ returns-in_err-say_name-clause-goes g c =
     let get = c.args.get.now in
     let path = c.args.path.now in
     let name = c.args.name.now in
-    let yes : c.in_ok-begun.begun ≡ true = search rules in
-    let whole : c.in_ok-kept.kept ≡ true = search rules in
+    let yes : c.in_ok-begun.begun ≡ true = c.if-not-begun.false in
+    let whole : c.in_ok-kept.kept ≡ true = c.if-not-kept.false in
     let begun = subst (λ (x : Bool). Begins h b get path x) yes c.in_ok-begun.ensures.goes in
     let kept = subst (λ (x : Bool). Keeps w k x) whole c.in_ok-kept.ensures.goes in
     let P = OnHost h k (IsGotAs get path name) in
@@ -166,8 +166,8 @@ returns-clause-goes g c =
     let get = c.args.get.now in
     let path = c.args.path.now in
     let name = c.args.name.now in
-    let yes : c.in_ok-begun.begun ≡ true = search rules in
-    let whole : c.in_ok-kept.kept ≡ true = search rules in
+    let yes : c.in_ok-begun.begun ≡ true = c.if-not-begun.false in
+    let whole : c.in_ok-kept.kept ≡ true = c.if-not-kept.false in
     let begun = subst (λ (x : Bool). Begins h b get path x) yes c.in_ok-begun.ensures.goes in
     let kept = subst (λ (x : Bool). Keeps w k x) whole c.in_ok-kept.ensures.goes in
     got_done get path name (told c.args.world.now) (told c.get_one.new.world) (told c.say_name.new.world) d h k c.in_ok-say_name.field-0
@@ -201,7 +201,7 @@ returns-in_default g c =
     let name = c.args.name.now in
     let old = told c.args.world.now in
     let new = told c.get_one.new.world in
-    let yes : c.in_ok-begun.begun ≡ true = search rules in
+    let yes : c.in_ok-begun.begun ≡ true = c.if-not-begun.false in
     let undone : c.in_ok-other.other ≡ status.Done → ⊥ = search rules in
     let begun = subst (λ (x : Bool). Begins h b get path x) yes c.in_ok-begun.ensures.goes in
     let same = same_then h b w (same_begun h b path get.replaces begun) c.in_ok-other.ensures.files in

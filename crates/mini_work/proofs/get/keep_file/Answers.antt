@@ -1,5 +1,5 @@
 use Rattle.mini_work.proofs.Caused.{cause_done, cause_fails, cause_then, later_same}
-use Rattle.std.proofs.Common.{◌≡◌, ◌∙◌, false, true, rules, sym}
+use Rattle.std.proofs.Common.{◌≡◌, ◌∙◌, false, true, sym}
 use Rattle.mini_work.proofs.KeptOut.{never_kept}
 use Rattle.mini_work.proofs.get.keep_file.Goals as goal
 
@@ -9,7 +9,7 @@ returns-then-kept-clause-goes g c = c.in_ok-kept.ensures.kept
 pub returns-clause-goes : goal.returns-clause-goes
 returns-clause-goes g c =
     let host = g.H.Host.told in
-    let no : c.in_ok-kept.kept ≡ false = search rules in
+    let no : c.in_ok-kept.kept ≡ false = c.if-kept.false in
     never_kept (host c.args.host.now) (host c.keep.new.host) (host c.bar.new.host) c.bar.result c.bar.ensures.no
     (λ f at. let e : false ≡ true = sym no ∙ c.in_ok-kept.ensures.has_it f at in cc e) c.in_ok-kept.ensures.kept c.bar.ensures.files
 

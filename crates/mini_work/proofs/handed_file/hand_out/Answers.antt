@@ -2,7 +2,7 @@ use Rattle.cms_model.specs.LawsUpdates.{now}
 use Rattle.cms_disk.specs.Cursors.{HasLeft}
 use Rattle.mini_work.proofs.Caused.{never_missing, cause_done, cause_fails, later_same, later_then}
 use Rattle.mini_work.specs.Faults.{fault_of}
-use Rattle.std.proofs.Common.{◌≡◌, ◌∙◌, true, false, Ok, Err, rules, sym, subst, arith, ℕ}
+use Rattle.std.proofs.Common.{◌≡◌, ◌∙◌, true, false, Ok, Err, sym, subst, ℕ}
 use Rattle.std.specs.Option.{ForSome}
 use Rattle.std.proofs.lemmas.Result.{err_from_is_err_and}
 use Rattle.cms_journal.specs.Journal.{HasBlocks}
@@ -30,7 +30,7 @@ returns-in_err-can-clause-grown g c = grown_same _ _ c.in_err-can.ensures.told
 pub returns-then-not-can-clause-hands : goal.returns-then-not-can-clause-hands
 returns-then-not-can-clause-hands g c = λ m s.
     let told = g.W.World.told in
-    let no : c.in_ok-can.can ≡ false = search rules in
+    let no : c.in_ok-can.can ≡ false = c.if-not-can.true in
     let f = file_of (told c.args.world.now) c.args.disk.now m c.args.name.now c.args.info.now c.requires.info s in
     hands_none c.args.way (told c.args.world.now) (told c.can_show.new.world) (g.H.Host.told c.args.host.now) (shown_in c.args.form m c.args.name.now)
     (shown_is c.args.form m c.args.name.now f.file f.named ∙ cannot_so c.args.form f.file (sym (c.in_ok-can.ensures.shows m f.file s f.named) ∙ no))
@@ -54,7 +54,7 @@ returns-in_err-hand_records-clause-hands g c = λ m s.
     let host = g.H.Host.told in
     let old = told c.args.world.now in
     let new = told c.hand_records.new.world in
-    let yes : c.in_ok-can.can ≡ true = search rules in
+    let yes : c.in_ok-can.can ≡ true = c.if-not-can.false in
     let f = file_of old c.args.disk.now m c.args.name.now c.args.info.now c.requires.info s in
     let cursor = c.in_ok-cursor.cursor in
     let puts = puts_file {A = Unit {0}} c.args.way c.args.form old new (host c.args.host.now) (host c.hand_records.new.host) c.args.disk.now m c.args.name.now c.args.info.now f cursor
@@ -75,7 +75,7 @@ returns-clause-hands g c = λ m s.
     let host = g.H.Host.told in
     let old = told c.args.world.now in
     let new = told c.hand_records.new.world in
-    let yes : c.in_ok-can.can ≡ true = search rules in
+    let yes : c.in_ok-can.can ≡ true = c.if-not-can.false in
     let f = file_of old c.args.disk.now m c.args.name.now c.args.info.now c.requires.info s in
     let cursor = c.in_ok-cursor.cursor in
     let puts = puts_file {A = Unit {0}} c.args.way c.args.form old new (host c.args.host.now) (host c.hand_records.new.host) c.args.disk.now m c.args.name.now c.args.info.now f cursor
