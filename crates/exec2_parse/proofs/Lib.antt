@@ -6,3 +6,4 @@ pub mod Folds
 pub mod Keywords
 pub mod Procedures
 pub mod Splits
+pub mod WordsCut

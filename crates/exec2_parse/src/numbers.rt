@@ -28,7 +28,6 @@ pub fn numeral(alloc: Global, number: usize) -> Result<Word, AllocError>
 }
 
 /// An ASCII text as a word.
-#[tactic(auto, unfolding(cms_text::specs::Texts::ebcdic))]
 fn encoded(alloc: Global, text: &str) -> Result<Word, AllocError>
     requires { length text.now ≤ longest_text }
     ensures { IfOk result (λ word. word ≡ texts.ebcdic text.now) }

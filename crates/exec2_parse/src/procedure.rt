@@ -1,5 +1,5 @@
 // EXEC 2 procedures.
-ghost use Rattle.std.specs.Prelude.{◌≡◌, ◌==◌, ◌≤◌, ◌⊎◌, ◌++◌, ◌∷◌, [], List, ℕ, length, option_map, slice_get, Ok, Err, IfOk, IfErr, OnOk};
+ghost use Rattle.std.specs.Prelude.{◌≡◌, ◌==◌, ◌≤◌, ◌⊎◌, ◌++◌, ◌∷◌, [], List, ℕ, length, option_map, slice_get, None, Ok, Err, IfOk, IfErr, MatchOption, OnOk};
 ghost use Rattle.std.specs.Option.{option_copied, option_map_or};
 ghost use Rattle.cms_model.specs.Records.{IsValid, StandsFor};
 ghost use Rattle.exec2_parse.specs.Procedures as spec;
@@ -147,24 +147,46 @@ pub fn read_procedure(alloc: Global, file: &FileData) -> Result<Procedure, ProcF
         ⊎ ((records : List (List ℕ)) → StandsFor file.now records
         → spec.procedure_of records ≡ Err fault)) }
 {
+    match fault_of(file) {
+        Some(fault) => Err(fault),
+        None => Ok(procedure_in(alloc, file)?),
+    }
+}
+
+/// Why a file is no procedure.
+fn fault_of(file: &FileData) -> Option<ProcFault>
+    requires { IsValid file.now }
+    ensures { MatchOption result
+        (spec.procedure_of (records_in file.now) ≡ Ok (spec.lines_of (records_in file.now)))
+        (λ fault. spec.procedure_of (records_in file.now) ≡ Err fault) }
+{
     if !begins_with_trace(file) {
-        return Err(ProcFault::NotExec2);
+        return Some(ProcFault::NotExec2);
     }
     if let Some(number) = number_of_long_line(file) {
-        return Err(ProcFault::LineTooLong(number));
+        return Some(ProcFault::LineTooLong(number));
     }
     if file.count > MOST_LINES {
-        return Err(ProcFault::TooManyLines);
+        return Some(ProcFault::TooManyLines);
     }
+    None
+}
+
+/// The procedure whose lines a file's records are.
+fn procedure_in(alloc: Global, file: &FileData) -> Result<Procedure, AllocError>
+    requires valid { IsValid file.now }
+    requires short { spec.number_of_long_line (spec.lines_of (records_in file.now)) ≡ None }
+    requires few { file.now.count ≤ spec.most_lines }
+    ensures { IfOk result (λ procedure. procedure ≡ spec.lines_of (records_in file.now)) }
+{
     let mut statements = Vec::new(alloc);
     for record in Records::of(file) {
         keep(alloc, &mut statements, without_trailing_blanks(record))?;
     }
-    Ok(Procedure::of(alloc, statements)?)
+    Procedure::of(alloc, statements)
 }
 
 /// Keeps a line behind the others.
-#[tactic(auto, using(crate::proofs::Procedures::kept_last))]
 fn keep(alloc: Global, statements: &mut Vec<Statement>, text: &[u8]) -> Result<(), AllocError>
     requires { length text.now ≤ longest_text }
     ensures { OnOk result (lines_in statements.new.items

@@ -1,23 +1,22 @@
-use Rattle.std.proofs.Common.{◌∙◌, ap, inr, sym, rules}
-use Rattle.std.specs.Prelude.{Ok}
-use Rattle.exec2_parse.specs.Statements.{lines_in}
-use Rattle.exec2_parse.proofs.Procedures.{all_read, few_kept, line_too_long, lines_are, not_exec2, too_many_lines}
+use Rattle.std.proofs.Common.{◌∙◌, ◌≤◌, ℕ, Err, Ok, ap, inr, subst, sym}
+use Rattle.cms_records.specs.Stored.{records_in}
+use Rattle.exec2_parse.specs.Procedures.{lines_of}
+use Rattle.exec2_parse.proofs.Procedures.{are_lines, length-records_in, said_of}
 use Rattle.exec2_parse.proofs.procedure.read_procedure.Goals as goal
 
-pub returns-then-not-begins_with_trace-clause-fault : goal.returns-then-not-begins_with_trace-clause-fault
-returns-then-not-begins_with_trace-clause-fault c = inr (λ records stands. not_exec2 c.args.file.now records stands (search rules))
+pub procedure_in-requires-clause-short : goal.procedure_in-requires-clause-short
+procedure_in-requires-clause-short c =
+    let records = records_in c.args.file.now in
+    (are_lines records (lines_of records) c.in-None.ensures).0
+
+pub procedure_in-requires-clause-few : goal.procedure_in-requires-clause-few
+procedure_in-requires-clause-few c =
+    let records = records_in c.args.file.now in
+    subst (λ (n : ℕ). n ≤ 4096) (length-records_in c.args.file.now) (are_lines records (lines_of records) c.in-None.ensures).1
 
 pub returns-in-Some-clause-fault : goal.returns-in-Some-clause-fault
-returns-in-Some-clause-fault c = inr (λ records stands. line_too_long c.args.file.now records stands c.in-Some.number (search rules) (sym c.in-Some.ensures))
+returns-in-Some-clause-fault c = inr (λ records stands. said_of c.args.file.now records (Err c.in-Some.fault) stands c.in-Some.ensures)
 
-pub returns-then-file-gt-MOST_LINES-clause-fault : goal.returns-then-file-gt-MOST_LINES-clause-fault
-returns-then-file-gt-MOST_LINES-clause-fault c = inr (λ records stands. too_many_lines c.args.file.now records stands (search rules) (sym c.in_default.ensures) (search rules))
-
-pub of-requires : goal.of-requires
-of-requires c = few_kept c.args.file.now c.loop-record.statements.items (search rules)
-    (all_read (lines_in c.loop-record.statements.items) c.loop-record.record-iterator _ c.loop-record.invariant.lines c.in-None.ensures.steps.0)
-
-pub returns-clause-lines : goal.returns-clause-lines
-returns-clause-lines c = λ records stands.
-    lines_are c.args.file.now records stands (lines_in c.loop-record.statements.items) (search rules) (sym c.in_default.ensures) (search rules)
-    (all_read (lines_in c.loop-record.statements.items) c.loop-record.record-iterator _ c.loop-record.invariant.lines c.in-None.ensures.steps.0) ∙ ap Ok (sym c.in_ok-of.ensures)
+pub returns-in_ok-procedure_in-in-None-clause-lines : goal.returns-in_ok-procedure_in-in-None-clause-lines
+returns-in_ok-procedure_in-in-None-clause-lines c = λ records stands.
+    said_of c.args.file.now records (Ok c.in_ok-procedure_in-in-None.field-0) stands (c.in-None.ensures ∙ ap Ok (sym c.in_ok-procedure_in-in-None.ensures))

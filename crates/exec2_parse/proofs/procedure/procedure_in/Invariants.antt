@@ -3,7 +3,7 @@ use Rattle.std.specs.Prelude.{None}
 use Rattle.exec2_parse.specs.Procedures.{lines_of, number_of_long_line}
 use Rattle.exec2_parse.specs.Statements.{lines_in}
 use Rattle.cms_records.specs.Stored.{records_in}
-use Rattle.exec2_parse.proofs.procedure.read_procedure.Given as goal
+use Rattle.exec2_parse.proofs.procedure.procedure_in.Given as goal
 
 abbrev pub invariant-loop-record : goal.invariant-loop-record
 invariant-loop-record l = record {
