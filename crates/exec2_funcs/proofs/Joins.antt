@@ -1,5 +1,5 @@
 -- Words joined one after another.
-use Rattle.std.proofs.Common.{◌≡◌, ◌∙◌, ◌∷◌, ◌++◌, ◌⊎◌, inl, inr, [], ◌+◌, ◌-◌, ◌<◌, ◌≤◌, ℕ, suc, List, length, take, drop, get_or, refl, sym, ap, subst, arith, true, false}
+use Rattle.std.proofs.Common.{◌≡◌, ◌∙◌, ◌∷◌, ◌++◌, ◌⊎◌, inl, inr, [], ◌+◌, ◌-◌, ◌<◌, ◌≤◌, ℕ, suc, List, length, take, drop, get_or, refl, sym, ap, subst, arith, Bool, true, false}
 use Rattle.std.specs.Prelude.{not, ◌==◌, nat_lt, filter, Result, Ok, Err}
 use Rattle.std.specs.List.{concat}
 use Rattle.std.proofs.lemmas.Bool.Decides.{nat_tests}
@@ -39,6 +39,20 @@ fits_all text short = let e : nat_lt 255 (length text) ≡ false = grind (arith,
 too_long : (text : Text) → 255 < length text → fitting text ≡ Err TooLong
 too_long text long = let e : nat_lt 255 (length text) ≡ true = grind (arith, nat_tests) in rw e refl
 
+-- a text of no bytes
+pub nothing_yet : (text : Text) → text ≡ [] → length text ≤ 255
+nothing_yet text none = subst (λ (t : Text). length t ≤ 255) (sym none) (omega arith)
+
+-- what a test of a word for no bytes says
+pub has_none : (word bytes : Text) (b : Bool) → b ≡ (length bytes == 0) → b ≡ true → bytes ≡ word → length word ≡ 0
+has_none word bytes b tells is same = subst (λ (t : Text). length t ≡ 0) same (grind (arith, nat_tests, tells, is))
+
+pub has_some : (word bytes : Text) (b : Bool) → b ≡ (length bytes == 0) → b ≡ false → bytes ≡ word → length word ≡ 0 → ⊥
+has_some word bytes b tells is same none = absurd (some_bytes (ap length same ∙ none))
+  where
+    some_bytes : length bytes ≡ 0 → ⊥
+    some_bytes none = grind (arith, nat_tests, tells, is, none)
+
 -- ---- concat
 
 concat-from : (words : List Text) (i : ℕ) (word : Text) → i < length words → word ≡ get_or words i word → concat (drop i words) ≡ word ++ concat (drop (i + 1) words)
@@ -57,7 +71,23 @@ concat_past words i text word here is so_far long =
     too_long (concat words) (rw (← so_far, concat-from words i word here is)
     (omega (arith, length-append text (word ++ concat (drop (i + 1) words)), length-append word (concat (drop (i + 1) words)))))
 
+-- a further word is joined
+pub concat_more : (words : List Text) (i : ℕ) (text word bytes next : Text) → i < length words → word ≡ get_or words i word → bytes ≡ word → next ≡ text ++ bytes
+    → text ++ concat (drop i words) ≡ concat words → next ++ concat (drop (i + 1) words) ≡ concat words
+concat_more words i text word bytes next here is same added so_far =
+    let rest = concat (drop (i + 1) words) in
+    ap (λ (t : Text). t ++ rest) (added ∙ ap (λ (b : Text). text ++ b) same)
+    ∙ (append_assoc text word rest ∙ (ap (λ (t : Text). text ++ t) (sym (concat-from words i word here is)) ∙ so_far))
+
 -- ---- literal
+
+-- a further word is joined behind a blank
+pub literal_more : (words : List Text) (i : ℕ) (text word bytes next all : Text) → i < length words → word ≡ get_or words i word → bytes ≡ word → next ≡ text ++ 0x40 ∷ bytes
+    → text ++ tail_of (drop i words) ≡ all → next ++ tail_of (drop (i + 1) words) ≡ all
+literal_more words i text word bytes next all here is same added so_far =
+    let rest = tail_of (drop (i + 1) words) in
+    ap (λ (t : Text). t ++ rest) (added ∙ ap (λ (b : Text). text ++ 0x40 ∷ b) same)
+    ∙ (append_assoc text (0x40 ∷ word) rest ∙ (ap (λ (t : Text). text ++ t) (sym (ap tail_of (from_here words i word here is))) ∙ so_far))
 
 pub literal_none : (words : List Text) → length words < 1 → literal_call words ≡ Ok []
 unfolding literal_call

@@ -1,0 +1,24 @@
+use Rattle.std.proofs.Common.{◌≤◌, ◌∙◌, length, le_of_eq, le_trans, subst, sym}
+use Rattle.std.proofs.lemmas.Result.{IfOk-from_err}
+use Rattle.cms_text.specs.Texts.{Text}
+use Rattle.exec2_funcs.proofs.Filled.{filled_so, length_filled}
+use Rattle.exec2_funcs.proofs.bytes.last_filled.Goals as goal
+
+pub returns-in_err-bytes : goal.returns-in_err-bytes
+returns-in_err-bytes c = IfOk-from_err c.from_residual.result _ c.from_residual.ensures.0
+
+pub returns-in_err-extend_from_slice : goal.returns-in_err-extend_from_slice
+returns-in_err-extend_from_slice c = IfOk-from_err c.from_residual-in_err-extend_from_slice.result _ c.from_residual-in_err-extend_from_slice.ensures.0
+
+pub take-requires : goal.take-requires
+take-requires c =
+    let a = c.args in
+    let filled = filled_so a.text.now c.in_ok-bytes.bytes.items c.extend_from_slice.new.self.items a.count c.min-kept.result c.min-kept.ensures (c.in_ok-bytes.ensures.items_if_clones_equal (λ y is. is))
+    c.in_ok-extend_from_slice.ensures.items in
+    subst (λ (t : Text). length t ≤ 255) (sym filled) (le_trans (le_of_eq (length_filled a.count a.text.now)) c.requires)
+
+pub returns : goal.returns
+returns c =
+    let a = c.args in
+    c.take.ensures ∙ filled_so a.text.now c.in_ok-bytes.bytes.items c.extend_from_slice.new.self.items a.count c.min-kept.result c.min-kept.ensures (c.in_ok-bytes.ensures.items_if_clones_equal (λ y is. is))
+    c.in_ok-extend_from_slice.ensures.items
