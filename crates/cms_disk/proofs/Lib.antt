@@ -1,6 +1,7 @@
 pub mod CrashStates
 pub mod BytesTaken
 pub mod ReadMoves
+pub mod ReadSteps
 pub mod QuietUnits
 pub mod FilesFound
 pub mod FilesTold

@@ -1,6 +1,7 @@
-use Rattle.std.proofs.Common.{rules, ◌≡◌, ◌≤◌, ◌-◌, ℕ, List, drop, Err, sym, ap, subst, arith, length-drop, ◌++◌}
+use Rattle.std.proofs.Common.{rules, ◌≡◌, ◌≤◌, ◌-◌, ℕ, List, drop, Err, sym, ap, subst, arith, length-drop, ◌++◌, true, false, refl, ◌∙◌}
+use Rattle.std.proofs.lemmas.Bool.{true≢false}
 use Rattle.cms_records.specs.Pieces.{Takes, bytes_so_far, next_place, record_size}
-use Rattle.cms_disk.specs.Cursors.{Cursor, HasLeft, IsShort}
+use Rattle.cms_disk.specs.Cursors.{Cursor, HasLeft, IsShort, HoldsLittle}
 use Rattle.cms_disk.proofs.BytesTaken.{takes_some}
 use Rattle.cms_disk.proofs.ReadMoves.{take_gives, take_altered}
 use Rattle.cms_disk.specs.contracts.cursor.Cursor.{the_view}
@@ -37,3 +38,46 @@ returns-in-Err-clause-altered c = λ image records some left.
     let there : c.deref.result.now ≡ v.block.items = search rules in
     let bad = subst (λ (l : List ℕ). record_size v.begun.fixed v.begun.longest (next_place v.begun) (bytes_so_far v.begun ++ drop v.from l) ≡ Err c.in-Err.field-0) there c.in-Err.ensures.fault in
     take_altered image (the_view v) records c.in-Err.field-0 bad (subst (λ (r : Cursor). 1 ≤ r.left) (sym view) some) (subst (λ (r : Cursor). HasLeft image r records) (sym view) left)
+
+pub returns-then-self-clause-altered : goal.returns-then-self-clause-altered
+returns-then-self-clause-altered c = λ image records some left. absurd (true≢false (sym (subst (λ (r : Cursor). r.altered ≡ true) c.self.view_is c.if-self.true) ∙ left.sound))
+
+pub returns-then-self-clause-held : goal.returns-then-self-clause-held
+returns-then-self-clause-held c = subst HoldsLittle c.self.view_is c.self.invariant.reading.held
+
+pub returns-then-self-clause-fault : goal.returns-then-self-clause-fault
+returns-then-self-clause-fault c = refl
+
+pub returns-in-Err-clause-fault : goal.returns-in-Err-clause-fault
+returns-in-Err-clause-fault c = refl
+
+pub returns-then-self-clause-marked : goal.returns-then-self-clause-marked
+returns-then-self-clause-marked c = subst (λ (r : Cursor). r.altered ≡ true) c.self.view_is c.if-self.true
+
+pub returns-then-self-clause-again : goal.returns-then-self-clause-again
+returns-then-self-clause-again c = λ is. refl
+
+pub returns-then-self-clause-rules : goal.returns-then-self-clause-rules
+returns-then-self-clause-rules c = (refl, refl)
+
+pub returns-in-Ok-clause-sound : goal.returns-in-Ok-clause-sound
+returns-in-Ok-clause-sound c = ap (λ (r : Cursor). r.altered) c.self.view_is
+
+pub returns-in-Ok-clause-again : goal.returns-in-Ok-clause-again
+returns-in-Ok-clause-again c = λ is. absurd (true≢false (sym is ∙ (sym (ap (λ (r : Cursor). r.altered) c.self.view_is) ∙ c.if-self.false)))
+
+pub returns-in-Err-clause-again : goal.returns-in-Err-clause-again
+returns-in-Err-clause-again c = λ is. absurd (true≢false (sym is ∙ (sym (ap (λ (r : Cursor). r.altered) c.self.view_is) ∙ c.if-self.false)))
+
+pub returns-in-Ok-clause-same : goal.returns-in-Ok-clause-same
+returns-in-Ok-clause-same c =
+    let v = c.self.inside in
+    ap (λ (r : Cursor). record r { begun = c.feed.new.self; from = c.in-Ok.fed.next; altered = v.altered }) c.self.view_is
+
+pub returns-in-Err-clause-same : goal.returns-in-Err-clause-same
+returns-in-Err-clause-same c =
+    let v = c.self.inside in
+    ap (λ (r : Cursor). record r { begun = c.feed.new.self; from = v.from; altered = true }) c.self.view_is
+
+pub returns-in-Err-clause-marked : goal.returns-in-Err-clause-marked
+returns-in-Err-clause-marked c = refl

@@ -27,6 +27,7 @@ use Rattle.cms_disk.proofs.FilesFound.{none_found}
 use Rattle.cms_disk.proofs.MoreDrafts.{behind_at, last_behind, may_extend, shape_told, shaped_at}
 use Rattle.cms_disk.proofs.RecordsPut.{same_more, same_some}
 use Rattle.cms_disk.proofs.TooMany.{limited, no_room}
+use Rattle.cms_edf.proofs.Exits.{ok_at_err}
 use Rattle.cms_disk.proofs.minidisk.Minidisk.append_at.Goals as goal
 
 pub returns-then-not-is_writable-clause-appends : goal.returns-then-not-is_writable-clause-appends
@@ -265,3 +266,12 @@ returns-clause-holds g c =
     (more_in d.volume c.commit.new.self.volume name s.file c.in_ok-shape.shape c.args.stamp.now c.put_records.new.draft planned
     (subst (λ (v : HeldVolume). LeadsToFile v c.put_records.new.draft c.commit.new.self.volume) volume leads)))
     c.commit.ensures.holds
+
+pub returns-in_err-shape-clause-holds : goal.returns-in_err-shape-clause-holds
+returns-in_err-shape-clause-holds g c = ok_at_err _ c.from_residual.result _ c.from_residual.ensures.1
+
+pub returns-in_err-draft-clause-holds : goal.returns-in_err-draft-clause-holds
+returns-in_err-draft-clause-holds g c = ok_at_err _ c.from_residual-in_err-draft.result _ c.from_residual-in_err-draft.ensures.1
+
+pub returns-in_err-put_records-clause-holds : goal.returns-in_err-put_records-clause-holds
+returns-in_err-put_records-clause-holds g c = ok_at_err _ c.from_residual-in_err-put_records.result _ c.from_residual-in_err-put_records.ensures.1

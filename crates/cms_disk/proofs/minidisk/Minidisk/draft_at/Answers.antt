@@ -6,6 +6,7 @@ use Rattle.cms_disk.specs.Disks.{Accessed, place_of}
 use Rattle.cms_disk.proofs.DraftAnswered.{draft_fault, draft_made, draft_refused}
 use Rattle.cms_disk.proofs.DraftSteps.{begins_put}
 use Rattle.cms_disk.proofs.FilePut.{not_both}
+use Rattle.cms_edf.proofs.Exits.{ok_at_err}
 use Rattle.cms_disk.proofs.minidisk.Minidisk.draft_at.Goals as goal
 
 pub plan_draft_at-requires-clause-place : goal.plan_draft_at-requires-clause-place
@@ -47,3 +48,18 @@ returns-clause-begins c = rw (← c.self.view_is) (
 
 pub returns-clause-planned : goal.returns-clause-planned
 returns-clause-planned c = rw (← c.self.view_is) c.in_ok-draft.ensures.planned
+
+pub returns-in_err-draft-clause-planned : goal.returns-in_err-draft-clause-planned
+returns-in_err-draft-clause-planned c = ok_at_err _ c.from_residual.result _ c.from_residual.ensures.1
+
+pub returns-in_err-draft-clause-some : goal.returns-in_err-draft-clause-some
+returns-in_err-draft-clause-some c = ok_at_err _ c.from_residual.result _ c.from_residual.ensures.1
+
+pub returns-in_err-draft-clause-fresh : goal.returns-in_err-draft-clause-fresh
+returns-in_err-draft-clause-fresh c = ok_at_err _ c.from_residual.result _ c.from_residual.ensures.1
+
+pub returns-in_err-draft-clause-begins : goal.returns-in_err-draft-clause-begins
+returns-in_err-draft-clause-begins c = ok_at_err _ c.from_residual.result _ c.from_residual.ensures.1
+
+pub returns-in_err-draft-clause-writable : goal.returns-in_err-draft-clause-writable
+returns-in_err-draft-clause-writable c = ok_at_err _ c.from_residual.result _ c.from_residual.ensures.1

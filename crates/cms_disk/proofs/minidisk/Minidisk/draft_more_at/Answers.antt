@@ -9,6 +9,7 @@ use Rattle.cms_disk.specs.Additions.{MayExtend}
 use Rattle.cms_disk.specs.Disks.{Accessed, place_of}
 use Rattle.cms_disk.proofs.AddAnswered.{more_fault, planned_so, refused_so, room_for}
 use Rattle.cms_disk.proofs.MoreDrafts.{begins_more, behind_file, can_grow, file_there, told_of}
+use Rattle.cms_edf.proofs.Exits.{ok_at_err}
 use Rattle.cms_disk.proofs.minidisk.Minidisk.draft_more_at.Goals as goal
 
 -- it is there
@@ -94,3 +95,21 @@ returns-clause-limited g c = λ writable which is.
 
 pub returns-clause-planned : goal.returns-clause-planned
 returns-clause-planned g c = rw (← c.self.view_is) c.in_ok-draft.ensures.planned
+
+pub returns-in_err-draft-clause-planned : goal.returns-in_err-draft-clause-planned
+returns-in_err-draft-clause-planned g c = ok_at_err _ c.from_residual.result _ c.from_residual.ensures.1
+
+pub returns-in_err-draft-clause-some : goal.returns-in_err-draft-clause-some
+returns-in_err-draft-clause-some g c = ok_at_err _ c.from_residual.result _ c.from_residual.ensures.1
+
+pub returns-in_err-draft-clause-behind : goal.returns-in_err-draft-clause-behind
+returns-in_err-draft-clause-behind g c = ok_at_err _ c.from_residual.result _ c.from_residual.ensures.1
+
+pub returns-in_err-draft-clause-begins : goal.returns-in_err-draft-clause-begins
+returns-in_err-draft-clause-begins g c = ok_at_err _ c.from_residual.result _ c.from_residual.ensures.1
+
+pub returns-in_err-draft-clause-room : goal.returns-in_err-draft-clause-room
+returns-in_err-draft-clause-room g c = ok_at_err _ c.from_residual.result _ c.from_residual.ensures.1
+
+pub returns-in_err-draft-clause-writable : goal.returns-in_err-draft-clause-writable
+returns-in_err-draft-clause-writable g c = ok_at_err _ c.from_residual.result _ c.from_residual.ensures.1

@@ -4,6 +4,7 @@ use Rattle.cms_journal.specs.Journal.{contents_of}
 use Rattle.cms_model.specs.Trees.{image_of}
 use Rattle.cms_disk.specs.Cursors.{HasLeft}
 use Rattle.cms_disk.proofs.Gotten.{data_stands, fixed_is, fixed_length, gets_err, gets_not_altered, gets_ok, gets_starved}
+use Rattle.cms_edf.proofs.Exits.{ok_at_err}
 use Rattle.cms_disk.proofs.minidisk.Minidisk.get_at.Goals as goal
 
 pub gather-requires-clause-fixed : goal.gather-requires-clause-fixed
@@ -64,3 +65,15 @@ returns-clause-like g c = λ name here.
       format = refl;
       fixed = λ at. c.length_of.ensures ∙ fixed_length info.format info.length c.in_ok-gathered.gathered.longest at;
     }
+
+pub returns-in_err-cursor-clause-valid : goal.returns-in_err-cursor-clause-valid
+returns-in_err-cursor-clause-valid g c = ok_at_err _ c.from_residual.result _ c.from_residual.ensures.1
+
+pub returns-in_err-cursor-clause-like : goal.returns-in_err-cursor-clause-like
+returns-in_err-cursor-clause-like g c = ok_at_err _ c.from_residual.result _ c.from_residual.ensures.1
+
+pub returns-in_err-gathered-clause-valid : goal.returns-in_err-gathered-clause-valid
+returns-in_err-gathered-clause-valid g c = ok_at_err _ c.from_residual-in_err-gathered.result _ c.from_residual-in_err-gathered.ensures.1
+
+pub returns-in_err-gathered-clause-like : goal.returns-in_err-gathered-clause-like
+returns-in_err-gathered-clause-like g c = ok_at_err _ c.from_residual-in_err-gathered.result _ c.from_residual-in_err-gathered.ensures.1

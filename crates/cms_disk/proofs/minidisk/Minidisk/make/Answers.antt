@@ -12,6 +12,7 @@ use Rattle.cms_disk.specs.Changes.{fault_of}
 use Rattle.cms_disk.specs.EmptyMinidisks.{Formats, IsReady}
 use Rattle.cms_disk.proofs.MakeSteps.{IsPlanned, failed_grown, failed_quiet, grown_cut_wipe, made, made_grown, made_quiet, make_failed, make_fault, not_memory, wipe_doubted}
 use Rattle.cms_disk.proofs.StepPieces.{grown_some}
+use Rattle.cms_edf.proofs.Exits.{ok_at_err}
 use Rattle.cms_disk.proofs.minidisk.Minidisk.make.Given as given
 use Rattle.cms_disk.proofs.minidisk.Minidisk.make.Goals as goal
 use Rattle.cms_disk.proofs.minidisk.Minidisk.make.Goals.{After-make}
@@ -145,3 +146,21 @@ returns-clause-changes g c =
     let made = c.make.ensures.counts in
     let second = made.cause.later in
     record { grown = grown_some (returns-clause-of_unit g c); faults = omega (arith, first, second); edges = made.edges ∙ wiped.edges; cause = tt }
+
+pub returns-in_err-plan-clause-unit : goal.returns-in_err-plan-clause-unit
+returns-in_err-plan-clause-unit g c = ok_at_err _ c.from_residual.result _ c.from_residual.ensures.1
+
+pub returns-in_err-plan-clause-empty : goal.returns-in_err-plan-clause-empty
+returns-in_err-plan-clause-empty g c = ok_at_err _ c.from_residual.result _ c.from_residual.ensures.1
+
+pub returns-in_err-wipe-clause-unit : goal.returns-in_err-wipe-clause-unit
+returns-in_err-wipe-clause-unit g c = ok_at_err _ c.from_residual-in_err-wipe.result _ c.from_residual-in_err-wipe.ensures.1
+
+pub returns-in_err-wipe-clause-empty : goal.returns-in_err-wipe-clause-empty
+returns-in_err-wipe-clause-empty g c = ok_at_err _ c.from_residual-in_err-wipe.result _ c.from_residual-in_err-wipe.ensures.1
+
+pub returns-in_err-held-clause-unit : goal.returns-in_err-held-clause-unit
+returns-in_err-held-clause-unit g c = ok_at_err _ c.from_residual-in_err-held.result _ c.from_residual-in_err-held.ensures.1
+
+pub returns-in_err-held-clause-empty : goal.returns-in_err-held-clause-empty
+returns-in_err-held-clause-empty g c = ok_at_err _ c.from_residual-in_err-held.result _ c.from_residual-in_err-held.ensures.1

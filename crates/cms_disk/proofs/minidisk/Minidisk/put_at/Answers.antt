@@ -22,6 +22,7 @@ use Rattle.cms_disk.specs.declared.fault.DiskFault.{DiskFault}
 use Rattle.cms_disk.specs.declared.fault.DiskFault.TheVariants.{Limit, ReadOnly}
 use Rattle.cms_disk.proofs.FilePut.{alters_same, are_last, changed_behind, device_is_fault, draft_is_fault, file_none, given_up, has_counts, has_shape, long_so, not_made, not_read_only, on_ok, put_in, refused_so}
 use Rattle.cms_disk.proofs.RecordsPut.{same_draft, same_some}
+use Rattle.cms_edf.proofs.Exits.{ok_at_err}
 use Rattle.cms_disk.proofs.minidisk.Minidisk.put_at.Goals as goal
 
 pub returns-in_err-draft-clause-alters : goal.returns-in_err-draft-clause-alters
@@ -160,3 +161,9 @@ returns-clause-holds g c =
     (put_in d.volume c.commit.new.self.volume name c.shape_of-shape.result c.args.stamp.now c.put_records.new.draft planned
     (subst (λ (v : HeldVolume). LeadsToFile v c.put_records.new.draft c.commit.new.self.volume) volume leads)))
     c.commit.ensures.holds
+
+pub returns-in_err-draft-clause-holds : goal.returns-in_err-draft-clause-holds
+returns-in_err-draft-clause-holds g c = ok_at_err _ c.from_residual.result _ c.from_residual.ensures.1
+
+pub returns-in_err-put_records-clause-holds : goal.returns-in_err-put_records-clause-holds
+returns-in_err-put_records-clause-holds g c = ok_at_err _ c.from_residual-in_err-put_records.result _ c.from_residual-in_err-put_records.ensures.1

@@ -1,0 +1,38 @@
+use Rattle.std.proofs.Common.{inl, refl, sym, ◌∙◌}
+use Rattle.std.proofs.lemmas.Bool.{true≢false}
+use Rattle.cms_disk.proofs.ReadSteps.{other_fault}
+use Rattle.cms_disk.specs.declared.fault.DiskFault.TheVariants.{ReadOnly}
+use Rattle.cms_disk.proofs.minidisk.Minidisk.relabel.Goals as goal
+
+pub change-requires-clause-stamp : goal.change-requires-clause-stamp
+change-requires-clause-stamp g c = c.requires.stamp
+
+pub change-requires-clause-blocks : goal.change-requires-clause-blocks
+change-requires-clause-blocks g c = c.requires.blocks
+
+pub change-requires-clause-writable : goal.change-requires-clause-writable
+change-requires-clause-writable g c = c.requires.writable (sym c.is_writable.ensures ∙ c.if-not-is_writable.false)
+
+pub returns-clause-alters : goal.returns-clause-alters
+returns-clause-alters g c = c.change.ensures.alters
+
+pub returns-clause-holds : goal.returns-clause-holds
+returns-clause-holds g c = c.change.ensures.holds
+
+pub returns-clause-changes : goal.returns-clause-changes
+returns-clause-changes g c = c.change.ensures.changes
+
+pub returns-clause-locked : goal.returns-clause-locked
+returns-clause-locked g c = λ no. absurd (true≢false (sym (sym c.is_writable.ensures ∙ c.if-not-is_writable.false) ∙ no))
+
+pub returns-clause-read_only : goal.returns-clause-read_only
+returns-clause-read_only g c = other_fault _ c.args.self.now.volume _ c.change.result ReadOnly c.change.ensures.fault (λ h. h)
+
+pub returns-then-not-is_writable-clause-read_only : goal.returns-then-not-is_writable-clause-read_only
+returns-then-not-is_writable-clause-read_only g c = λ is. sym c.is_writable.ensures ∙ c.if-not-is_writable.true
+
+pub returns-then-not-is_writable-clause-locked : goal.returns-then-not-is_writable-clause-locked
+returns-then-not-is_writable-clause-locked g c = λ no. refl
+
+pub returns-then-not-is_writable-clause-fault : goal.returns-then-not-is_writable-clause-fault
+returns-then-not-is_writable-clause-fault g c = inl refl
