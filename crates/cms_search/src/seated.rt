@@ -69,7 +69,7 @@ pub fn clear(seats: &mut Vec<Option<Seated>>, letter: usize)
     requires { letter < length seats.old.items }
     ensures { seats.new.items ≡ cleared letter seats.old.items }
 {
-    seats[letter] = None;
+    drop(seats[letter].take());
 }
 
 /// A unit leaves its letter.

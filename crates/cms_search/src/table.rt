@@ -441,7 +441,7 @@ impl AccessTable {
         if self.seated(letter).is_none() {
             return Err(SearchFault::NotAccessed(letter));
         }
-        self.seats[letter as usize] = None;
+        drop(self.seats[letter as usize].take());
         Ok(())
     }
 
