@@ -1,4 +1,4 @@
-use Rattle.std.proofs.Common.{◌≡◌, ◌∙◌, ap, subst, ◌<◌, ◌≤◌, ◌++◌, List, ℕ}
+use Rattle.std.proofs.Common.{◌∙◌, ap, subst, ◌<◌, ◌≤◌, ◌++◌, List, ℕ}
 use Rattle.std.specs.List.{concat}
 use Rattle.cms_world.proofs.Exits.{ok_at_err}
 use Rattle.cms_world.proofs.BlocksJoined.{joined_more, joined_all}

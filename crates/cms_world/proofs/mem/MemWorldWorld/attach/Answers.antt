@@ -1,5 +1,4 @@
-use Rattle.std.proofs.Common.{◌≡◌, ◌∙◌, Option, refl, sym, ap}
-use Rattle.cms_world.specs.Images.{starting}
+use Rattle.std.proofs.Common.{refl}
 use Rattle.cms_world.proofs.Calls.{cause_none, for_some, none_some}
 use Rattle.cms_world.proofs.mem.MemWorldWorld.attach.Goals as goal
 

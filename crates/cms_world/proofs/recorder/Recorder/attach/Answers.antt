@@ -1,4 +1,4 @@
-use Rattle.std.proofs.Common.{arith, ◌≡◌, ◌∙◌, ◌∷◌, [], ◌++◌, ℕ, List, refl, ap, sym, reverse, length, subst}
+use Rattle.std.proofs.Common.{arith, ◌∙◌, refl, ap, sym, reverse, length, subst}
 use Rattle.std.proofs.lemmas.Grind.{common_steps}
 use Rattle.cms_world.proofs.Records.{record_attach, cut_back, pushed_err, pushed_ok, view_same, view_unit}
 use Rattle.cms_journal.specs.Journal.{Journal, IsUntouched}
