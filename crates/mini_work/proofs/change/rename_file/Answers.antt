@@ -1,6 +1,6 @@
 use Rattle.mini_work.proofs.Caused.{later_same}
 use Rattle.mini_work.specs.Causes.{counts}
-use Rattle.std.proofs.Common.{◌∙◌, FitsSigned, rules, subst, sym, w32, ℤ}
+use Rattle.std.proofs.Common.{◌∙◌, FitsSigned, subst, sym, w32, ℤ}
 use Rattle.std.proofs.lemmas.Int.{to_z-of_z}
 use Rattle.cms_model.specs.Changes.{Rename}
 use Rattle.mini_work.specs.Changes.{IsChange, IsTimed}
@@ -20,7 +20,7 @@ returns-clause-goes g c =
     let number = c.mode_number-number.result in
     let from = c.args.from.now in
     let to = c.args.to.now in
-    let small : FitsSigned w32 c.args.offset = search rules in
+    let small : FitsSigned w32 c.args.offset = c.ranges.offset in
     let o = to_z-of_z w32 c.args.offset small in
     let timed = subst (λ (x : ℤ). Continues (IsTimed x (λ stamp. IsChange (Rename from to number) stamp c.args.says (name_line to))) (told c.args.world.now)
     c.args.disk.now (told c.rename_timed.new.world) c.rename_timed.new.disk c.rename_timed.result) o c.rename_timed.ensures.goes in

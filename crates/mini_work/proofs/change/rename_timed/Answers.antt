@@ -1,5 +1,5 @@
 use Rattle.mini_work.proofs.Caused.{end_fails, end_then, later_same}
-use Rattle.std.proofs.Common.{FitsSigned, Err, Ok, rules, subst, w32, ℤ}
+use Rattle.std.proofs.Common.{FitsSigned, Err, Ok, subst, w32, ℤ}
 use Rattle.std.proofs.lemmas.Int.{to_z-of_z}
 use Rattle.std.proofs.lemmas.Result.{err_from_is_err_and}
 use Rattle.cms_fields.specs.declared.time.Stamp.{Stamp}
@@ -22,7 +22,7 @@ returns-in_err-stamp-clause-goes g c =
     let p = err_from_is_err_and c.from_residual.result c.from_residual.ensures.1 in
     let d = c.args.disk.now in
     let P = λ (stamp : Stamp). IsChange (Rename c.args.from.now c.args.to.now c.args.number) stamp c.args.says (name_line c.args.to.now) in
-    let small : FitsSigned w32 c.args.offset = search rules in
+    let small : FitsSigned w32 c.args.offset = c.ranges.offset in
     let o = to_z-of_z w32 c.args.offset small in
     let asked = subst (λ (x : ℤ). Continues (IsAsked x) (told c.args.world.now) d (told c.ask_clock.new.world) d (Err c.in_err-stamp.field-0.0)) o
     (c.in_err-stamp.ensures.goes d) in
@@ -33,7 +33,7 @@ returns-clause-goes g c =
     let told = g.W.World.told in
     let d = c.args.disk.now in
     let P = λ (stamp : Stamp). IsChange (Rename c.args.from.now c.args.to.now c.args.number) stamp c.args.says (name_line c.args.to.now) in
-    let small : FitsSigned w32 c.args.offset = search rules in
+    let small : FitsSigned w32 c.args.offset = c.ranges.offset in
     let o = to_z-of_z w32 c.args.offset small in
     let asked = subst (λ (x : ℤ). Continues (IsAsked x) (told c.args.world.now) d (told c.ask_clock.new.world) d (Ok c.in_ok-stamp.stamp)) o
     (c.in_ok-stamp.ensures.goes d) in

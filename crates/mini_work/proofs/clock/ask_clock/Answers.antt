@@ -14,7 +14,7 @@ pub returns-in-Ok-clause-goes : goal.returns-in-Ok-clause-goes
 returns-in-Ok-clause-goes g c = λ d.
     let fits : FitsSigned w64 c.in-Ok.seconds = search rules in
     let seconds = to_z-of_z w64 c.in-Ok.seconds fits in
-    let small : FitsSigned w32 c.args.offset = search rules in
+    let small : FitsSigned w32 c.args.offset = c.ranges.offset in
     let offset = to_z-of_z w32 c.args.offset small in
     let value = rw (seconds, offset) at c.of_epoch.ensures.value in
     asked_on c.args.offset c.of.result c.in-Ok.seconds _ _ d c.in-Ok.ensures.now

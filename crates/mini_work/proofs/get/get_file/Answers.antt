@@ -1,6 +1,6 @@
 use Rattle.mini_work.specs.Causes.{counts}
 use Rattle.mini_work.proofs.Caused.{end_done, end_then}
-use Rattle.std.proofs.Common.{◌≡◌, Bool, Ok, false, rules, subst, true}
+use Rattle.std.proofs.Common.{◌≡◌, Bool, Ok, false, subst, true}
 use Rattle.mini_work.proofs.GotOut.{gets_done, gets_nothing}
 use Rattle.mini_work.specs.HandedFiles.{Hands, shown_in}
 use Rattle.mini_work.proofs.get.get_file.Goals as goal
@@ -10,14 +10,14 @@ hand_out-requires-clause-blocks g c = c.requires.may.0
 
 pub returns-in-Ok-true-clause-gets : goal.returns-in-Ok-true-clause-gets
 returns-in-Ok-true-clause-gets g c = λ m s.
-    let yes : c.in-Ok-true.field-0 ≡ true = search rules in
+    let yes : c.in-Ok-true.field-0 ≡ true = c.in-Ok-true.field-0-test in
     gets_done c.args.way _ _ _ _ (shown_in c.args.form m c.args.name.now)
     (subst (λ (b : Bool). Hands c.args.way (g.W.World.told c.args.world.now) (g.W.World.told c.hand_out.new.world) (g.H.Host.told c.args.host.now)
     (g.H.Host.told c.hand_out.new.host) (shown_in c.args.form m c.args.name.now) (Ok b)) yes (c.in-Ok-true.ensures.hands m s))
 
 pub returns-in-Ok-false-clause-gets : goal.returns-in-Ok-false-clause-gets
 returns-in-Ok-false-clause-gets g c = λ m s.
-    let no : c.in-Ok-false.field-0 ≡ false = search rules in
+    let no : c.in-Ok-false.field-0 ≡ false = c.in-Ok-false.field-0-test in
     gets_nothing c.args.way (g.W.World.told c.args.world.now) (g.W.World.told c.hand_out.new.world) (g.H.Host.told c.args.host.now)
     (g.H.Host.told c.hand_out.new.host) (g.H.Host.told c.refuse_lines.new.host) (shown_in c.args.form m c.args.name.now) c.refuse_lines.result
     (subst (λ (b : Bool). Hands c.args.way (g.W.World.told c.args.world.now) (g.W.World.told c.hand_out.new.world) (g.H.Host.told c.args.host.now)

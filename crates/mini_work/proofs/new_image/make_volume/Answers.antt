@@ -1,6 +1,6 @@
 use Rattle.mini_work.proofs.Caused.{cause_done, cause_fails, later_same, later_then, made_devices, units_failed, units_later}
 use Rattle.mini_work.specs.Faults.{fault_of}
-use Rattle.std.proofs.Common.{FitsSigned, Ok, rules, subst, w32, ℤ}
+use Rattle.std.proofs.Common.{FitsSigned, Ok, subst, w32, ℤ}
 use Rattle.std.proofs.lemmas.Int.{to_z-of_z}
 use Rattle.std.proofs.lemmas.Result.{err_from_is_err_and}
 use Rattle.mini_work.specs.Changes.{Asks}
@@ -24,7 +24,7 @@ pub returns-in_err-_disk-clause-goes : goal.returns-in_err-_disk-clause-goes
 returns-in_err-_disk-clause-goes g c = λ name size access a.
     let told = g.W.World.told in
     let p = err_from_is_err_and c.from_residual-in_err-_disk.result c.from_residual-in_err-_disk.ensures.1 in
-    let small : FitsSigned w32 c.args.offset = search rules in
+    let small : FitsSigned w32 c.args.offset = c.ranges.offset in
     let o = to_z-of_z w32 c.args.offset small in
     let asks = subst (λ (x : ℤ). Asks x (told c.args.world.now) (told c.ask_clock.new.world) (Ok c.in_ok-stamp.stamp)) o c.in_ok-stamp.ensures.asks in
     makes_cut name size access (told c.args.world.now) (told c.ask_clock.new.world) (told c.make.new.world) c.args.unit.now a c.args.label
@@ -33,7 +33,7 @@ returns-in_err-_disk-clause-goes g c = λ name size access a.
 pub returns-clause-goes : goal.returns-clause-goes
 returns-clause-goes g c = λ name size access a.
     let told = g.W.World.told in
-    let small : FitsSigned w32 c.args.offset = search rules in
+    let small : FitsSigned w32 c.args.offset = c.ranges.offset in
     let o = to_z-of_z w32 c.args.offset small in
     let asks = subst (λ (x : ℤ). Asks x (told c.args.world.now) (told c.ask_clock.new.world) (Ok c.in_ok-stamp.stamp)) o c.in_ok-stamp.ensures.asks in
     makes_done name size access (told c.args.world.now) (told c.ask_clock.new.world) (told c.make.new.world) c.args.unit.now a c.args.label
