@@ -1,7 +1,7 @@
 -- What is answered where a part of a function failed.
 use Rattle.std.proofs.Common.{◌≡◌, ◌∙◌, ◌⊎◌, inl, inr, Result, Ok, Err, sym, ap}
 use Rattle.std.specs.Result.{IsErrAnd, MatchResult}
-use Rattle.exec2_run.specs.Faults.{Answers, Does, Leads}
+use Rattle.exec2_run.specs.Faults.{Answers, Leads}
 use Rattle.exec2_run.specs.declared.fault.Fault.{Fault}
 use Rattle.exec2_run.specs.declared.fault.Fault.TheVariants.{Memory}
 
@@ -22,16 +22,6 @@ part_fails defined (Err e) why P h (inl want) led = inl (h ∙ want)
 part_fails defined (Err e) why P h (inr is) led = inr (led is ∙ ap Err (sym h))
 
 -- ---- and an object stays as it was
-
-pub does_no_memory : {S A : Type 0} (defined : Result (S × A) Fault) (old new : S) (r : Result A Fault) → new ≡ old → IsErrAnd r (λ e. e ≡ Memory) → Does defined old new r
-does_no_memory defined old new (Ok x) same h = absurd h
-does_no_memory defined old new (Err e) same h = (same, inl h)
-
-pub does_part_fail : {S A : Type 0} (defined : Result (S × A) Fault) (old new : S) (r : Result A Fault) (why : Fault) (P : Type 0) → new ≡ old → IsErrAnd r (λ e. e ≡ why)
-    → (why ≡ Memory) ⊎ P → (P → defined ≡ Err why) → Does defined old new r
-does_part_fail defined old new (Ok x) why P same h said led = absurd h
-does_part_fail defined old new (Err e) why P same h (inl want) led = (same, inl (h ∙ want))
-does_part_fail defined old new (Err e) why P same h (inr is) led = (same, inr (led is ∙ ap Err (sym h)))
 
 pub leads_no_memory : {S A : Type 0} (defined : Result S Fault) (old new : S) (r : Result A Fault) → new ≡ old → IsErrAnd r (λ e. e ≡ Memory) → Leads defined old new r
 leads_no_memory defined old new (Ok x) same h = absurd h

@@ -51,18 +51,6 @@ cut_front : (keeps : Bool) (why : ExpandFault) (more : Operands) → spec.in_fro
 cut_front true why more = refl
 cut_front false why more = refl
 
-kept_front : (text : Text) (more : Operands) → spec.in_front true (Ok text) more ≡ record { words = text ∷ more.words; is_cut = more.is_cut }
-kept_front [] more = refl
-kept_front (byte ∷ bytes) more = refl
-
-some_front : (text : Text) (more : Operands) → (length text ≡ 0 → ⊥) → spec.in_front false (Ok text) more ≡ record { words = text ∷ more.words; is_cut = more.is_cut }
-some_front [] more some = absurd (some refl)
-some_front (byte ∷ bytes) more some = refl
-
-none_front : (text : Text) (more : Operands) → length text ≡ 0 → spec.in_front false (Ok text) more ≡ more
-none_front [] more none = refl
-none_front (byte ∷ bytes) more none = absurd (cc)
-
 module _ (keeps : Bool) (b : Binding) (words : List Text) (i : ℕ) (word text : Text) (here : i < length words) (is : word ≡ get_or words i word) (same : text ≡ word) (front : List Text)
     (so_far : spec.behind front (spec.values keeps b (drop i words)) ≡ spec.values keeps b words) where
   step : spec.values keeps b (drop i words) ≡ spec.in_front keeps (expanded b text) (spec.values keeps b (drop (i + 1) words))
@@ -74,24 +62,6 @@ module _ (keeps : Bool) (b : Binding) (words : List Text) (i : ℕ) (word text :
       let rest = spec.values keeps b (drop (i + 1) words) in
       let ends : spec.values keeps b (drop i words) ≡ record { words = []; is_cut = true } = step ∙ (ap (λ (r : Result Text ExpandFault). spec.in_front keeps r rest) bad ∙ cut_front keeps why rest) in
       sym (ap (spec.behind front) ends ∙ ap (λ (ws : List Text). record { words = ws; is_cut = true }) (append-nil front)) ∙ so_far
-
-  -- a value that is kept, and one that isn't
-  pub one_value : (value : Text) (more : List Text) → expanded b text ≡ Ok value → more ≡ front ++ value ∷ []
-      → spec.in_front keeps (Ok value) (spec.values keeps b (drop (i + 1) words)) ≡ spec.behind (value ∷ []) (spec.values keeps b (drop (i + 1) words))
-      → spec.behind more (spec.values keeps b (drop (i + 1) words)) ≡ spec.values keeps b words
-  one_value value more good added stands =
-      let rest = spec.values keeps b (drop (i + 1) words) in
-      ap (λ (ws : List Text). spec.behind ws rest) added
-      ∙ (ap (λ (ws : List Text). record { words = ws; is_cut = rest.is_cut }) (append_assoc front (value ∷ []) rest.words)
-      ∙ (sym (ap (spec.behind front) (step ∙ (ap (λ (r : Result Text ExpandFault). spec.in_front keeps r rest) good ∙ stands))) ∙ so_far))
-
-  pub no_value : (value : Text) (more : List Text) → expanded b text ≡ Ok value → more ≡ front
-      → spec.in_front keeps (Ok value) (spec.values keeps b (drop (i + 1) words)) ≡ spec.values keeps b (drop (i + 1) words)
-      → spec.behind more (spec.values keeps b (drop (i + 1) words)) ≡ spec.values keeps b words
-  no_value value more good kept falls =
-      let rest = spec.values keeps b (drop (i + 1) words) in
-      ap (λ (ws : List Text). spec.behind ws rest) kept
-      ∙ (sym (ap (spec.behind front) (step ∙ (ap (λ (r : Result Text ExpandFault). spec.in_front keeps r rest) good ∙ falls))) ∙ so_far)
 
 pub all_values : (keeps : Bool) (b : Binding) (words : List Text) (i : ℕ) (front : List Text) → length words ≤ i → spec.behind front (spec.values keeps b (drop i words)) ≡ spec.values keeps b words
     → record { words = front; is_cut = false } ≡ spec.values keeps b words
