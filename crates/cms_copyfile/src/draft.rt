@@ -67,9 +67,11 @@ fn finish<W: World>(world: &mut W, table: &mut AccessTable, letter: u8, draft: D
     ensures read { result ≢ Unread }
 {
     if draft.records_left() != 0 {
+        drop(draft);
         return Written::Altered;
     }
     if draft.bytes_left() != 0 {
+        drop(draft);
         return Written::Altered;
     }
     Written::Came(table.commit(world, letter, draft))
@@ -104,9 +106,18 @@ fn fill<W: World>(
 {
     match put_copies(world, cursor, plan, buffer, &mut draft) {
         Ok(()) => finish(world, table, letter, draft),
-        Err(CopyFault::Read) => Written::Unread,
-        Err(CopyFault::Write) => Written::Came(Err(DiskFault::Device)),
-        Err(CopyFault::Altered) => Written::Altered,
+        Err(CopyFault::Read) => {
+            drop(draft);
+            Written::Unread
+        }
+        Err(CopyFault::Write) => {
+            drop(draft);
+            Written::Came(Err(DiskFault::Device))
+        }
+        Err(CopyFault::Altered) => {
+            drop(draft);
+            Written::Altered
+        }
     }
 }
 
