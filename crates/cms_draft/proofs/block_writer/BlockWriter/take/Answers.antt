@@ -70,7 +70,6 @@ returns-then-self-bytes-clause-mark g c =
 pub returns-then-self-bytes-clause-still : goal.returns-then-self-bytes-clause-still
 returns-then-self-bytes-clause-still g c = λ j told. can_same j.units c.args.self.now c.fill-taken.new.self (same_filled c.args.self.now c.fill-taken.new.self c.fill-taken.ensures.same) (c.requires.ready j told)
 
-
 pub returns-then-self-bytes-clause-counts : goal.returns-then-self-bytes-clause-counts
 returns-then-self-bytes-clause-counts g c = record { cause = record { later = omega arith; failed = tt }; edges = refl }
 
@@ -92,7 +91,6 @@ flush-requires-clause-fewer g c =
 
 pub flush-requires-clause-ready : goal.flush-requires-clause-ready
 flush-requires-clause-ready g c = λ j told. can_same j.units c.args.self.now c.fill-taken.new.self (same_filled c.args.self.now c.fill-taken.new.self c.fill-taken.ensures.same) (c.requires.ready j told)
-
 
 pub returns-in-Ok-clause-taken : goal.returns-in-Ok-clause-taken
 returns-in-Ok-clause-taken g c =

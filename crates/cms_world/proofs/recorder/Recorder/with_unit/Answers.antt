@@ -19,7 +19,7 @@ returns-then-eq c =
     let held = current_at _ _ _ _ a.number _ within c.self.invariant c.index-then-eq.ensures in
     let named : bytes_eq c.index.result.now.name a.name.now ≡ true = cc (c.bytes.ensures, c.as_bytes.ensures.value, c.eq.ensures, c.if-eq.true) in
     let same = with_unit_named (journal i.units.items (reverse i.events.items)) a.number c.index.result.now c.index-then-eq.result.now a.name.now a.bytes.items within c.index.ensures named held
-        ∙ ap (λ (j : Journal). with_unit j a.number a.name.now a.bytes.items) c.self.view_is in
+    ∙ ap (λ (j : Journal). with_unit j a.number a.name.now a.bytes.items) c.self.view_is in
     let bytes = ap (λ (bytes : List ℕ). over (concat c.index-then-eq.result.now) bytes) c.deref.ensures.value in
     IfOk-weaker c.overlaid.result _ _ (λ written is. is ∙ (bytes ∙ same)) c.overlaid.ensures
 
