@@ -52,8 +52,8 @@ returns-in-Err-Write-clause-fills g c =
     (unwritten_so before now s.0.disk c.args.draft c.put_copies.new.draft c.args.plan.now c.args.cursor.now c.put_copies.result
     (c.in-Err-Write.is ∙ ap (λ (e : CopyFault). Err e) c.in-Err-Write.field-0-is) put.puts put.changes)
 
-pub returns-clause-fills : goal.returns-clause-fills
-returns-clause-fills g c =
+pub returns-in-Err-Altered-clause-fills : goal.returns-in-Err-Altered-clause-fills
+returns-in-Err-Altered-clause-fills g c =
     let s = some_seat _ c.requires.accessed in
     let before = seen g.W.World c.args.world.now in
     let now = seen g.W.World c.put_copies.new.world in
@@ -94,5 +94,5 @@ returns-in-Err-Write-clause-unit g c = λ s at start m change stamp records from
     subst (λ (r : Result ⊤ CopyFault). FailsOn start now s.disk m c.put_copies.new.draft change stamp plan first read records r)
     (c.in-Err-Write.is ∙ ap (λ (e : CopyFault). Err e) c.in-Err-Write.field-0-is) (c.put_copies.ensures.unit start s.disk m change stamp records from)
 
-pub returns-clause-unit : goal.returns-clause-unit
-returns-clause-unit g c = λ s at start m change stamp records from. tt
+pub returns-in-Err-Altered-clause-unit : goal.returns-in-Err-Altered-clause-unit
+returns-in-Err-Altered-clause-unit g c = λ s at start m change stamp records from. tt
