@@ -249,7 +249,8 @@ impl Trial {
         let Some(row) = row_for(self.faults, call as usize, lands) else {
             return write!(into, "no row of call {call}");
         };
-        if row.words[0] == UNTRIED {
+        let states = row.words[0];
+        if states == UNTRIED {
             return Ok(());
         }
         let mut world = world_named(alloc, self.images, &whole.script)?;
