@@ -265,8 +265,9 @@ impl Trial {
         alloc: Global,
         whole: &Transcript,
     ) -> Result<(), AllocError> {
-        for place in 0..self.calls.len() {
-            let call = (place as u32).saturating_add(1);
+        let mut call: u32 = 0;
+        for _letter in self.calls.iter() {
+            call = call.saturating_add(1);
             self.push_failing(into, alloc, whole, call, false)?;
             self.push_failing(into, alloc, whole, call, true)?;
         }
