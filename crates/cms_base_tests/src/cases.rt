@@ -1,7 +1,7 @@
 // The cases of each module, and the test that tries them.
 use crate::{
-    climbs, code_page, decks, fields, files, generator, maps, names, operands, pieces, records,
-    resumes, trees, words,
+    climbs, code_page, decks, fields, files, maps, names, operands, pieces, records, resumes,
+    trees, words,
 };
 use cms_cases::{Subject, try_rows};
 use std::alloc::{AllocError, Global};
@@ -23,7 +23,6 @@ enum Cases {
     Resumes,
     Words,
     Operands,
-    Generator,
 }
 
 // The rows of each.
@@ -41,7 +40,6 @@ const ROWS: &[(Cases, &str)] = &[
     (Cases::Resumes, resumes::ROWS),
     (Cases::Words, words::ROWS),
     (Cases::Operands, operands::ROWS),
-    (Cases::Generator, generator::ROWS),
 ];
 
 impl Subject for Cases {
@@ -60,7 +58,6 @@ impl Subject for Cases {
             Cases::Resumes => resumes::answer(alloc, case),
             Cases::Words => words::answer(alloc, case),
             Cases::Operands => operands::answer(alloc, case),
-            Cases::Generator => generator::answer(alloc, case),
         }
     }
 }

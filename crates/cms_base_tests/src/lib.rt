@@ -16,8 +16,6 @@ mod fields;
 #[cfg(test)]
 mod files;
 #[cfg(test)]
-mod generator;
-#[cfg(test)]
 mod line;
 #[cfg(test)]
 mod maps;

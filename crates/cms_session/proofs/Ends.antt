@@ -31,7 +31,7 @@ use Rattle.cms_search.specs.declared.state.End.{End}
 use Rattle.cms_search.specs.declared.state.End.TheVariants as cut
 use Rattle.cms_search.specs.declared.state.State as declared
 use Rattle.cms_ext.specs.Extensions.{desk}
-use Rattle.cms_rounds.proofs.Alone.{standing}
+use Rattle.cms_session.proofs.Alone.{standing}
 use Rattle.cms_words.specs.declared.words.Words.{Words}
 use Rattle.cms_world.specs.Seen.{Seen}
 use Rattle.cms_session.specs.Machine.{machine, started}
@@ -39,8 +39,8 @@ use Rattle.cms_session.specs.Calls.{session_tree, finished}
 use Rattle.cms_session.specs.Headline.{Start, Headline, Agrees, Came, Begins, EndsAs, IsAs, beats_in, fresh, settled, first_console, first_machine, first_point, start_point, start_tree, run_on}
 use Rattle.cms_session.specs.Sessions.{AttachesAll, HaveSizes, IsAsSeen, CameTo, WasCut, EndedAs, OnUnits, RunsOn, start_on, status_at, status_of}
 use Rattle.cms_session.specs.Words.{asked_of, given_by}
-use Rattle.cms_rounds.specs.declared.state.Finish.{Finish}
-use Rattle.cms_rounds.specs.declared.state.Finish.TheVariants as finish
+use Rattle.cms_session.specs.declared.state.Finish.{Finish}
+use Rattle.cms_session.specs.declared.state.Finish.TheVariants as finish
 use Rattle.cms_session.specs.declared.status.Status.{Status}
 use Rattle.cms_session.specs.declared.status.Status.TheVariants.{Done, Usage, Memory, World, Turns}
 use Rattle.cms_session.proofs.Starts.{first_state_of, none_lettered, settled_at, left_first, now_first, holds_start, devices_start}

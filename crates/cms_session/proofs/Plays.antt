@@ -11,12 +11,12 @@ use Rattle.cms_search.proofs.Acts.{comes_then, comes_in, comes_same, acts_done, 
 use Rattle.cms_ext.specs.Calls.{desk_of}
 use Rattle.exec2_run.specs.State.{Exec}
 use Rattle.cms_cards.specs.PunchedCards.{Decks}
-use Rattle.cms_rounds.specs.Calls.{passed_beside}
-use Rattle.cms_rounds.specs.declared.state.Finish.{Finish}
-use Rattle.cms_rounds.specs.declared.state.Round as rounds
-use Rattle.cms_rounds.specs.declared.state.Round.TheVariants as end
-use Rattle.cms_rounds.proofs.Alone.{acts_alone, alone}
-use Rattle.cms_rounds.proofs.Rounds.{round_on}
+use Rattle.cms_session.specs.RoundCalls.{passed_beside}
+use Rattle.cms_session.specs.declared.state.Finish.{Finish}
+use Rattle.cms_session.specs.declared.state.Round as rounds
+use Rattle.cms_session.specs.declared.state.Round.TheVariants as end
+use Rattle.cms_session.proofs.Alone.{acts_alone, alone}
+use Rattle.cms_session.proofs.Rounds.{round_on}
 use Rattle.cms_session.specs.Machine.{rounds as rounds_from, run_lines, then_round, session}
 use Rattle.cms_session.specs.Calls.{access_tree, finished, session_tree}
 

@@ -7,9 +7,9 @@ use Rattle.cms_search.specs.Calls.{Meaning, machine_of}
 use Rattle.cms_search.specs.Machine.{Machine}
 use Rattle.cms_search.specs.declared.state.State.{State}
 use Rattle.cms_ext.specs.Calls.{desk_of}
-use Rattle.cms_rounds.specs.Calls.{decks_of, procedures_of}
-use Rattle.cms_rounds.specs.declared.state.Finish.{Finish}
-use Rattle.cms_rounds.specs.declared.state.Session as declared_session
+use Rattle.cms_session.specs.RoundCalls.{decks_of, procedures_of}
+use Rattle.cms_session.specs.declared.state.Finish.{Finish}
+use Rattle.cms_session.specs.declared.state.Session as declared_session
 use Rattle.cms_session.specs.Machine.{access_first, rounds, started}
 
 -- ---- the trees of the parts of a session on the machine with these units

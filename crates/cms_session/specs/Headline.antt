@@ -28,8 +28,8 @@ use Rattle.cms_world.specs.Seen.{Seen}
 use Rattle.cms_search.specs.declared.state.Device.{Device}
 use Rattle.cms_ext.specs.Extensions.{Desk, desk}
 use Rattle.cms_session.specs.Machine.{machine, started}
-use Rattle.cms_rounds.specs.declared.state.Finish.{Finish}
-use Rattle.cms_rounds.specs.declared.state.Finish.TheVariants as finish
+use Rattle.cms_session.specs.declared.state.Finish.{Finish}
+use Rattle.cms_session.specs.declared.state.Finish.TheVariants as finish
 use Rattle.cms_session.specs.declared.status.Status.{Status}
 use Rattle.cms_session.specs.declared.status.Status.TheVariants.{Done, Usage, Memory, World, Turns}
 

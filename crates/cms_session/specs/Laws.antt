@@ -13,8 +13,8 @@ use Rattle.cms_machine.specs.Feeds.{Over}
 use Rattle.cms_world.specs.Seen.{Seen}
 use Rattle.cms_session.specs.Headline.{Start, Agrees, Came, Headline, beats_in, behind_beats, run_on, start_point}
 use Rattle.cms_session.specs.Sessions.{status_of}
-use Rattle.cms_rounds.specs.declared.state.Finish.{Finish}
-use Rattle.cms_rounds.specs.declared.state.Finish.TheVariants as finish
+use Rattle.cms_session.specs.declared.state.Finish.{Finish}
+use Rattle.cms_session.specs.declared.state.Finish.TheVariants as finish
 use Rattle.cms_session.specs.declared.status.Status.{Status}
 use Rattle.cms_session.specs.declared.status.Status.TheVariants.{Done, Memory}
 

@@ -1,3 +1,13 @@
+pub mod Generator
+pub mod Pieces
+pub mod Decks
+pub mod Commands
+pub mod Nucleus
+pub mod Lines
+pub mod Subcommands
+pub mod Procedures
+pub mod Rounds
+pub mod RoundCalls
 pub mod Words
 pub mod Statuses
 pub mod Machine

@@ -11,10 +11,10 @@ use Rattle.cms_search.specs.Machine.{Machine}
 use Rattle.cms_ext.specs.Extensions.{Desk, desk}
 use Rattle.exec2_run.specs.State.{Exec}
 use Rattle.cms_cards.specs.PunchedCards.{Decks}
-use Rattle.cms_rounds.specs.Procedures.{Passed, Stops, Goes}
-use Rattle.cms_rounds.specs.Rounds.{round}
-use Rattle.cms_rounds.specs.declared.state.Finish.{Finish}
-use Rattle.cms_rounds.specs.declared.state.Finish.TheVariants as finish
+use Rattle.cms_session.specs.Procedures.{Passed, Stops, Goes}
+use Rattle.cms_session.specs.Rounds.{round}
+use Rattle.cms_session.specs.declared.state.Finish.{Finish}
+use Rattle.cms_session.specs.declared.state.Finish.TheVariants as finish
 
 -- ---- the session
 

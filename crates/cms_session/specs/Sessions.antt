@@ -31,8 +31,8 @@ use Rattle.cms_words.specs.declared.words.Words.{Words}
 use Rattle.cms_session.specs.Words.{Asked, Read, given_by}
 use Rattle.cms_session.specs.Words as words
 use Rattle.cms_session.specs.Headline.{Start, Headline, fresh, first_machine, first_point}
-use Rattle.cms_rounds.specs.declared.state.Finish.{Finish}
-use Rattle.cms_rounds.specs.declared.state.Finish.TheVariants as finish
+use Rattle.cms_session.specs.declared.state.Finish.{Finish}
+use Rattle.cms_session.specs.declared.state.Finish.TheVariants as finish
 use Rattle.cms_session.specs.declared.status.Status.{Status}
 use Rattle.cms_session.specs.declared.status.Status.TheVariants.{Done, Usage, Memory, World, Turns}
 

@@ -5,7 +5,7 @@ use Rattle.cms_words.specs.Words.{without_repeat, words_of}
 use Rattle.cms_words.specs.declared.fault.WordFault.{WordFault}
 use Rattle.cms_words.specs.declared.words.Words.{Words}
 use Rattle.cms_words.specs.declared.unit.UnitWord.{UnitWord}
-use Rattle.cms_generator.specs.Generator.{script_of}
+use Rattle.cms_session.specs.Generator.{script_of}
 
 -- a session on units: the turns that it has, by how many seconds civil time is ahead of UTC, and a script that is given in place of the
 -- world's

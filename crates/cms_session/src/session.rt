@@ -4,11 +4,12 @@ ghost use Rattle.cms_search.specs.Calls.{spot, spot_with, Acts, IsUsable};
 ghost use Rattle.cms_ext.specs.Objects.{objects_of};
 ghost use Rattle.cms_search.specs.Turns.{machine_now};
 ghost use Rattle.cms_fields.specs.Offsets.{IsOffset};
-ghost use Rattle.cms_rounds.specs.Calls.{decks_of, procedures_of};
+ghost use Rattle.cms_session.specs.RoundCalls.{decks_of, procedures_of};
 ghost use Rattle.cms_session.specs.Calls.{access_tree, finished, rounds_tree, session_tree};
 
+use crate::round::run_round;
+use crate::state::{Finish, Round, Session};
 use cms_ext::{ExtList, Extension};
-use cms_rounds::{Finish, Round, Session, run_round};
 use cms_search::{End, State};
 use cms_world::World;
 use std::alloc::Global;

@@ -11,14 +11,14 @@ ghost use Rattle.cms_words.specs.declared.fault.WordFault.{WordFault};
 ghost use Rattle.cms_words.specs.declared.fault.WordFault.TheVariants.{Memory};
 ghost use Rattle.cms_session.specs.Words.{AreUnits, Asked, Runs, asked_of, given_by, read_words};
 
+use crate::generator::script;
 use crate::session::play;
+use crate::state::{Finish, Session};
 use crate::status::Status;
 use crate::units::attach_all;
 use cms_cards::Reader;
 use cms_ext::{ExtList, Extension};
-use cms_generator::script;
 use cms_line::Console;
-use cms_rounds::{Finish, Session};
 use cms_search::{End, State, UnitList};
 use cms_words::{WordFault, Words, read_words};
 use cms_world::{Argv, World};

@@ -1,5 +1,5 @@
-// The cases of extensions, and the test that tries them.
-use crate::{edits, lists};
+// The cases of each module that has rows, and the test that tries them.
+use crate::{edits, generated_scripts, lists};
 use cms_cases::{Subject, try_rows};
 use std::alloc::{AllocError, Global};
 use std::test::Fail;
@@ -7,16 +7,22 @@ use std::test::Fail;
 // Whose cases they are.
 #[derive(Clone, Copy)]
 enum Cases {
+    GeneratedScripts,
     Edits,
     Lists,
 }
 
 // The rows of each.
-const ROWS: &[(Cases, &str)] = &[(Cases::Edits, edits::ROWS), (Cases::Lists, lists::ROWS)];
+const ROWS: &[(Cases, &str)] = &[
+    (Cases::GeneratedScripts, generated_scripts::ROWS),
+    (Cases::Edits, edits::ROWS),
+    (Cases::Lists, lists::ROWS),
+];
 
 impl Subject for Cases {
     fn answer(&self, alloc: Global, case: &str) -> Result<String, AllocError> {
         match self {
+            Cases::GeneratedScripts => generated_scripts::answer(alloc, case),
             Cases::Edits => edits::answer(alloc, case),
             Cases::Lists => lists::answer(alloc, case),
         }
@@ -24,6 +30,6 @@ impl Subject for Cases {
 }
 
 #[test]
-fn edits_and_lists_have_their_answers(rt: HostRuntime) -> Result<(), Fail> {
+fn cases_have_their_answers(rt: HostRuntime) -> Result<(), Fail> {
     try_rows(&rt, ROWS)
 }

@@ -36,6 +36,8 @@ mod file_tests;
 #[cfg(test)]
 mod format_tests;
 #[cfg(test)]
+mod generated_scripts;
+#[cfg(test)]
 mod listing_tests;
 #[cfg(test)]
 mod lists;

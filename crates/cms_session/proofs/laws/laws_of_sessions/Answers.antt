@@ -8,8 +8,8 @@ use Rattle.cms_machine.specs.Steps.{Outcome}
 use Rattle.cms_machine.specs.Feeds.{Fed, Over}
 use Rattle.cms_session.specs.Headline.{Start, Agrees, Came, EndsAs, run_on}
 use Rattle.cms_session.specs.Sessions.{status_of}
-use Rattle.cms_rounds.specs.declared.state.Finish.{Finish}
-use Rattle.cms_rounds.specs.declared.state.Finish.TheVariants as finish
+use Rattle.cms_session.specs.declared.state.Finish.{Finish}
+use Rattle.cms_session.specs.declared.state.Finish.TheVariants as finish
 use Rattle.cms_session.specs.declared.status.Status.{Status}
 use Rattle.cms_session.specs.declared.status.Status.TheVariants.{Done, Usage, Memory, World, Turns}
 use Rattle.cms_session.proofs.Handed.{asked_is_itself, dropped_is_lost}
