@@ -1,7 +1,6 @@
 // The cases of each module, and the test that tries them.
 use crate::{
-    climbs, code_page, decks, fields, files, maps, names, operands, pieces, records, resumes,
-    trees, words,
+    climbs, code_page, fields, files, maps, names, operands, pieces, records, resumes, trees, words,
 };
 use cms_cases::{Subject, try_rows};
 use std::alloc::{AllocError, Global};
@@ -17,7 +16,6 @@ enum Cases {
     Maps,
     Records,
     Pieces,
-    Decks,
     Trees,
     Climbs,
     Resumes,
@@ -34,7 +32,6 @@ const ROWS: &[(Cases, &str)] = &[
     (Cases::Maps, maps::ROWS),
     (Cases::Records, records::ROWS),
     (Cases::Pieces, pieces::ROWS),
-    (Cases::Decks, decks::ROWS),
     (Cases::Trees, trees::ROWS),
     (Cases::Climbs, climbs::ROWS),
     (Cases::Resumes, resumes::ROWS),
@@ -52,7 +49,6 @@ impl Subject for Cases {
             Cases::Maps => maps::answer(alloc, case),
             Cases::Records => records::answer(alloc, case),
             Cases::Pieces => pieces::answer(alloc, case),
-            Cases::Decks => decks::answer(alloc, case),
             Cases::Trees => trees::answer(alloc, case),
             Cases::Climbs => climbs::answer(alloc, case),
             Cases::Resumes => resumes::answer(alloc, case),

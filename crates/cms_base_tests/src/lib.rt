@@ -8,8 +8,6 @@ mod climbs;
 #[cfg(test)]
 mod code_page;
 #[cfg(test)]
-mod decks;
-#[cfg(test)]
 mod exec2;
 #[cfg(test)]
 mod fields;

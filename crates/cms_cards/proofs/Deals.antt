@@ -24,7 +24,7 @@ use Rattle.cms_search.specs.declared.state.End.TheVariants.{Memory}
 use Rattle.cms_search.specs.declared.state.State.{State}
 use Rattle.cms_search.proofs.Acts.{acts_done, acts_same, acts_stop, comes_in, comes_none, comes_same, comes_then, no_memory, refused}
 use Rattle.cms_world.specs.Seen.{Seen}
-use Rattle.cms_decks.specs.Dumps.{IsDumpOf, dump, file_with}
+use Rattle.cms_cards.specs.Dumps.{IsDumpOf, dump, file_with}
 use Rattle.cms_cards.specs.Calls.{IsTaken, dealt_of, decks_left, fetched_of}
 use Rattle.cms_cards.specs.Cards.{Dealt, adding, dealt, decks_behind, keeping, on_said, taking}
 use Rattle.cms_cards.specs.Fetch.{Fetched}

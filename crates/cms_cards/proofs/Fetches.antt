@@ -61,7 +61,7 @@ use Rattle.cms_files.proofs.FileTold.{IsTold, file_told}
 use Rattle.cms_files.proofs.Found.{found_held, memory_or_other}
 use Rattle.cms_files.proofs.OpenedFiles.{seat_with}
 use Rattle.cms_files.proofs.WholeReads.{ReadsAll, comes_read, seen_now, there_is}
-use Rattle.cms_decks.specs.Dumps.{file_with}
+use Rattle.cms_cards.specs.Dumps.{file_with}
 use Rattle.cms_cards.specs.Calls.{fetched_of, with_refused}
 use Rattle.cms_cards.specs.Fetch.{Fetched, HasFile, IsRefused, fetch_on, fetching, not_taken, on_search, read_fitting, read_there, read_whole, refused, too_long, too_many}
 use Rattle.cms_cards.specs.declared.fetch.Fetched as came

@@ -45,7 +45,7 @@ use Rattle.cms_files.specs.Told.{info_named}
 use Rattle.cms_files.specs.Updates.{last_update}
 use Rattle.cms_files.proofs.FileTold.{IsTold, file_told}
 use Rattle.cms_files.proofs.LastUpdates.{acts_changed, last_tree}
-use Rattle.cms_decks.specs.Dumps.{load}
+use Rattle.cms_cards.specs.Dumps.{load}
 use Rattle.cms_files.proofs.OutputModes.{number_below}
 use Rattle.cms_cards.specs.Calls.{number_told}
 use Rattle.cms_cards.specs.Fetch.{not_taken}

@@ -12,7 +12,7 @@ use Rattle.cms_search.specs.declared.state.Course as declared_course
 use Rattle.cms_search.specs.declared.state.Course.TheVariants as course
 use Rattle.cms_search.specs.declared.state.End.{End}
 use Rattle.cms_search.specs.declared.state.State.{State}
-use Rattle.cms_decks.specs.Dumps.{file_with}
+use Rattle.cms_cards.specs.Dumps.{file_with}
 use Rattle.cms_cards.specs.Cards.{Dealt, cards, dealt}
 use Rattle.cms_cards.specs.Fetch.{Fetched, HasFile, IsRefused}
 use Rattle.cms_cards.specs.PunchedCards.{Decks}

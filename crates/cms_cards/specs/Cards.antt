@@ -9,8 +9,8 @@ use Rattle.cms_operands.specs.declared.refusal.Refusal.{Refusal}
 use Rattle.cms_search.specs.Machine.{Course, Machine, Went, OutOfTurns, refusal}
 use Rattle.cms_search.specs.Refusals.{on_line}
 use Rattle.cms_files.specs.declared.identifier.FileInput.{FileInput}
-use Rattle.cms_decks.specs.Dumps.{dump}
-use Rattle.cms_decks.specs.Readers.{most_decks}
+use Rattle.cms_cards.specs.Dumps.{dump}
+use Rattle.cms_cards.specs.Readers.{most_decks}
 use Rattle.cms_cards.specs.Fetch.{Fetched, HasFile, IsRefused, fetching}
 use Rattle.cms_cards.specs.FirstDeck.{loading, reading_cards}
 use Rattle.cms_cards.specs.Lines.{disk_line, punch_line, read_line}

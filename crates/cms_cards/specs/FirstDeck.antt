@@ -14,7 +14,7 @@ use Rattle.cms_search.specs.Searches.{shelves_in}
 use Rattle.cms_search.specs.declared.fault.SearchFault.{SearchFault}
 use Rattle.cms_files.specs.Files.{UnitFile, file_on, no_file_code, on_found, writable}
 use Rattle.cms_files.specs.Updates.{last_update}
-use Rattle.cms_decks.specs.Dumps.{load}
+use Rattle.cms_cards.specs.Dumps.{load}
 use Rattle.cms_cards.specs.Fetch.{not_taken}
 use Rattle.cms_cards.specs.PunchedCards.{Deck, card_of, card_size, record_cards}
 use Rattle.cms_cards.specs.declared.line.ReadTarget.{ReadTarget}

@@ -1,3 +1,7 @@
+pub mod Headers
+pub mod Stored
+pub mod Dumps
+pub mod Readers
 pub mod Lines
 pub mod PunchedCards
 pub mod Fetch

@@ -7,7 +7,7 @@ ghost use Rattle.cms_cards.specs.Calls.{cards_tree, dealt_of};
 use crate::disk::run_disk;
 use crate::punch::run_punch;
 use crate::readcard::run_readcard;
-use cms_decks::Reader;
+use crate::reader::Reader;
 use cms_line::Tokens;
 use cms_search::{Course, End, State};
 use cms_world::World;

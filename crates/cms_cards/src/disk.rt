@@ -5,10 +5,11 @@ ghost use Rattle.cms_search.specs.Calls.{Acts, IsUsable, machine_of, spot};
 ghost use Rattle.cms_cards.specs.Calls.{dealt_of};
 ghost use Rattle.cms_cards.specs.Cards as spec;
 
+use crate::dump::write_deck;
 use crate::fetch::{Bounds, Fetched, fetch};
 use crate::first_deck::{load_file, take_deck};
 use crate::line::{DiskLine, disk_line};
-use cms_decks::{Reader, write_deck};
+use crate::reader::Reader;
 use cms_files::FileInput;
 use cms_line::Tokens;
 use cms_operands::WriteMode;

@@ -8,7 +8,7 @@ ghost use Rattle.cms_search.specs.Machine.{letter_at};
 ghost use Rattle.cms_cards.specs.Calls.{IsTaken, fetched_of, with_refused};
 ghost use Rattle.cms_cards.specs.Fetch as spec;
 
-use cms_decks::CARD;
+use crate::deck::CARD;
 use cms_disk::{DiskFault, FileData, FileInfo};
 use cms_files::{FileInput, info_found, refuse_unfound};
 use cms_line::{Message, Tokens};

@@ -12,9 +12,11 @@ ghost use Rattle.cms_cards.specs.Calls.{decks_left, number_told};
 ghost use Rattle.cms_cards.specs.FirstDeck as spec;
 ghost use Rattle.cms_cards.specs.PunchedCards.{card_of, record_cards, tells};
 
+use crate::deck::{CARD, Card, Deck};
 use crate::fetch::NOT_TAKEN;
 use crate::line::ReadTarget;
-use cms_decks::{CARD, Card, Deck, Reader, read_deck};
+use crate::load::read_deck;
+use crate::reader::Reader;
 use cms_disk::FileData;
 use cms_fields::Stamp;
 use cms_files::{Gathered, NO_FILE, refuse_unfound, write_last};

@@ -1,14 +1,26 @@
-//! PUNCH, READCARD and DISK: files on the decks of a virtual reader.
+//! PUNCH, READCARD and DISK: files on the decks of a virtual reader. A file is dumped onto a deck of cards and loaded from one, and
+//! the reader holds decks, the first punched first.
 #![tactic(auto)]
 
 mod command;
+mod deck;
 mod disk;
+mod dump;
 mod fetch;
 mod first_deck;
+mod header;
+mod laws;
 mod line;
+mod load;
 mod punch;
 mod readcard;
+mod reader;
+mod stored;
 
-pub use cms_decks::{Card, Deck, Reader, read_deck, write_deck};
 pub use command::{CardCommand, run};
+pub use deck::{CARD, Card, Deck};
+pub use dump::write_deck;
+pub use laws::dump_laws;
 pub use line::{DiskLine, DiskVerb, PunchLine, ReadTarget, disk_line, punch_line, read_line};
+pub use load::read_deck;
+pub use reader::Reader;

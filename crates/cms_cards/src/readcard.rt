@@ -7,7 +7,7 @@ ghost use Rattle.cms_cards.specs.Cards as spec;
 
 use crate::first_deck::{read_cards, take_deck};
 use crate::line::read_line;
-use cms_decks::Reader;
+use crate::reader::Reader;
 use cms_line::Tokens;
 use cms_search::{Course, End, State, refuse_command};
 use cms_world::World;

@@ -14,6 +14,8 @@ mod copy_tests;
 #[cfg(test)]
 mod deck_tests;
 #[cfg(test)]
+mod decks;
+#[cfg(test)]
 mod disk_tests;
 #[cfg(test)]
 mod echo;

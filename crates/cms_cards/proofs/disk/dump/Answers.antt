@@ -1,7 +1,7 @@
 use Rattle.std.proofs.Common.{◌∙◌, ◌++◌, ◌∷◌, [], ap, false}
 use Rattle.std.proofs.lemmas.Result.{err_from_is_err_and}
 use Rattle.cms_search.specs.Calls.{machine_of}
-use Rattle.cms_decks.specs.Dumps as spec
+use Rattle.cms_cards.specs.Dumps as spec
 use Rattle.cms_cards.specs.Cards.{is_full}
 use Rattle.cms_cards.specs.Fetch.{fetching}
 use Rattle.cms_cards.specs.PunchedCards.{Deck}

@@ -1,7 +1,7 @@
 use Rattle.std.proofs.Common.{refl, arith}
 use Rattle.std.proofs.lemmas.Result.{err_from_is_err_and}
 use Rattle.cms_search.proofs.Acts.{cut_off}
-use Rattle.cms_decks.specs.Dumps.{file_with}
+use Rattle.cms_cards.specs.Dumps.{file_with}
 use Rattle.cms_cards.proofs.Loads.{dump_missing, dump_written}
 use Rattle.cms_cards.proofs.first_deck.write_dump.Goals as goal
 

@@ -1,5 +1,0 @@
-pub mod Cards
-pub mod Headers
-pub mod FilledRecords
-pub mod Loaded
-mod Examples

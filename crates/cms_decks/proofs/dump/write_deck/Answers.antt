@@ -1,7 +1,0 @@
-use Rattle.std.proofs.Common.{◌∙◌}
-use Rattle.cms_decks.proofs.Loaded.{deck_dumped}
-use Rattle.cms_decks.proofs.dump.write_deck.Goals as goal
-
-pub returns : goal.returns
-returns c =
-    deck_dumped c.cards_of.result c.args.name.now c.args.file.now c.deref.result.now (c.deref.ensures.value ∙ c.in_ok-text.ensures) c.cards_of.ensures

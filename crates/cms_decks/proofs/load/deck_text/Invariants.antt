@@ -1,6 +1,0 @@
-use Rattle.std.proofs.Common.{◌≡◌, take}
-use Rattle.cms_decks.specs.Dumps.{deck_text}
-use Rattle.cms_decks.proofs.load.deck_text.Given as goal
-
-abbrev pub invariant-loop-card : goal.invariant-loop-card
-invariant-loop-card l = l.text.items ≡ deck_text (take l.card-index l.deck)

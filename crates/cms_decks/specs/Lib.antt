@@ -1,4 +1,0 @@
-pub mod Headers
-pub mod Stored
-pub mod Dumps
-pub mod Readers
