@@ -1,12 +1,12 @@
 // Lines of a command with a name, a mode and a number, and what is typed where they are refused; written by hand from the manual's
 // order of refusals.
 use cms_cases::{Ascii, told};
-use cms_commands::command_named;
 use cms_line::{Line, Message, Tokens, tokens, write_message};
 use cms_operands::{
     ChosenOptions, CommandFault, OptionForm, Parameter, Refusal, access_mode, chosen_options,
-    device_or_letter, ended, given_or, letter_or_all, name, name_or_all, name_or_same, needed,
-    number, number_or_all, operands, output_mode, pattern, reading_mode, writing_mode,
+    command_named, device_or_letter, ended, given_or, letter_or_all, name, name_or_all,
+    name_or_same, needed, number, number_or_all, operands, output_mode, pattern, reading_mode,
+    writing_mode,
 };
 use cms_text::{LONGEST_TEXT, ebcdic};
 use std::alloc::{AllocError, Global};

@@ -1,3 +1,4 @@
+pub mod SpellingExamples
 pub mod OperandLemmas
 pub mod ChoiceLemmas
 pub mod Examples

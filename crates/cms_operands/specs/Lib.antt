@@ -1,3 +1,4 @@
+pub mod Spellings
 pub mod Refusals
 pub mod ReadModes
 pub mod Operands

@@ -1,5 +1,5 @@
-//! What a command's line says: its words by their kinds as operands, its options with their parameters, and the first refusal among
-//! them. Nothing here knows the machine or a disk.
+//! What a command's line says: the command that its first word names, its other words by their kinds as operands, its options with
+//! their parameters, and the first refusal among them. Nothing here knows what a command does, nor the machine or a disk.
 #![tactic(auto)]
 
 mod mode;
@@ -7,6 +7,7 @@ mod operand;
 mod optional;
 mod options;
 mod refusal;
+mod spelling;
 
 pub use cms_text::coded;
 pub use mode::ReadMode;
@@ -24,3 +25,4 @@ pub use options::{
     without_options,
 };
 pub use refusal::Refusal;
+pub use spelling::{CommandName, command_named};

@@ -1,9 +1,9 @@
 -- What a line of the console asks for.
 use Rattle.std.specs.Prelude.{ℕ, Bool, true, ◌==◌, ◌||◌, List, [], ◌∷◌, Option, Some, None}
 use Rattle.std.specs.List.{list_all}
-use Rattle.cms_commands.specs.Spellings.{command_named}
-use Rattle.cms_commands.specs.declared.spelling.CommandName.{CommandName}
-use Rattle.cms_commands.specs.declared.spelling.CommandName.TheVariants as named
+use Rattle.cms_operands.specs.Spellings.{command_named}
+use Rattle.cms_operands.specs.declared.spelling.CommandName.{CommandName}
+use Rattle.cms_operands.specs.declared.spelling.CommandName.TheVariants as named
 use Rattle.cms_session.specs.declared.command.Command.TheVariants.{Access, Release, Format, Century, Query, Listfile, Rename, Erase, TypeFile, State, Copyfile, Execio, Unknown}
 use Rattle.cms_session.specs.declared.command.Request.{Request}
 use Rattle.cms_session.specs.declared.command.Request.TheVariants.{Exec, Nucxdrop, Nucxmap, Cards, Command}

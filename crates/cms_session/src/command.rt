@@ -4,7 +4,7 @@ ghost use Rattle.std.specs.List.{list_all};
 ghost use Rattle.cms_session.specs.Commands.{is_comment, request_of};
 
 use cms_cards::CardCommand;
-use cms_commands::{CommandName, command_named};
+use cms_operands::{CommandName, command_named};
 use cms_text::BLANK;
 
 /// A command that knows of no procedure, of no extension and of no deck.

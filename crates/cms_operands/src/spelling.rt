@@ -1,6 +1,6 @@
 // The words of the commands.
 ghost use Rattle.std.specs.Prelude.{◌≡◌};
-ghost use Rattle.cms_commands.specs.Spellings as spec;
+ghost use Rattle.cms_operands.specs.Spellings as spec;
 
 use cms_line::{OptionRule, is_named};
 use cms_text::coded;

@@ -2,9 +2,9 @@
 use Rattle.std.proofs.Common.{◌≡◌, ℕ, List, Option, Some, None, codes, refl}
 use Rattle.cms_ebcdic.specs.CodePage.{code_of, code_page}
 use Rattle.cms_text.specs.Texts.{ebcdic}
-use Rattle.cms_commands.specs.Spellings.{command_named, spellings}
-use Rattle.cms_commands.specs.declared.spelling.CommandName.{CommandName}
-use Rattle.cms_commands.specs.declared.spelling.CommandName.TheVariants as command
+use Rattle.cms_operands.specs.Spellings.{command_named, spellings}
+use Rattle.cms_operands.specs.declared.spelling.CommandName.{CommandName}
+use Rattle.cms_operands.specs.declared.spelling.CommandName.TheVariants as command
 
 abbrev named : List ℕ → Option CommandName
 named word = command_named (ebcdic word)

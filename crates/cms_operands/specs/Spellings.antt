@@ -3,9 +3,9 @@ use Rattle.std.specs.Prelude.{ℕ, List, [], ◌∷◌, codes, find, Option}
 use Rattle.std.specs.Option.{option_map}
 use Rattle.cms_line.specs.Options.{is_named}
 use Rattle.cms_text.specs.Texts.{coded}
-use Rattle.cms_commands.specs.declared.spelling.CommandName.{CommandName}
-use Rattle.cms_commands.specs.declared.spelling.CommandName.TheVariants.{Access, Release, Format, Century, Query, Listfile, Copyfile, Rename, Erase, TypeFile, State, Execio, Exec, Nucxdrop, Nucxmap, Punch, Readcard, Disk}
-use Rattle.cms_commands.specs.declared.spelling.Spelling.{Spelling}
+use Rattle.cms_operands.specs.declared.spelling.CommandName.{CommandName}
+use Rattle.cms_operands.specs.declared.spelling.CommandName.TheVariants.{Access, Release, Format, Century, Query, Listfile, Copyfile, Rename, Erase, TypeFile, State, Execio, Exec, Nucxdrop, Nucxmap, Punch, Readcard, Disk}
+use Rattle.cms_operands.specs.declared.spelling.Spelling.{Spelling}
 
 -- a command is named by each beginning of its word that is long enough
 abbrev pub spelled : List ℕ → ℕ → CommandName → Spelling
