@@ -1,6 +1,6 @@
 -- ACCESS's tree, as the table says what was done.
 use Rattle.std.proofs.Common.{ℕ, Option, Result, Ok, Err}
-use Rattle.cms_machine.specs.Acts.{Act, bind}
+use Rattle.cms_model.specs.Acts.{Act, bind}
 use Rattle.cms_search.specs.Access.{accessing_tree}
 use Rattle.cms_search.specs.Calls.{Acts, Spot, beside, course_of, itself, machine_of}
 use Rattle.cms_search.specs.Machine.{Course, Machine}

@@ -13,11 +13,11 @@ use Rattle.cms_model.specs.SharedTrees.{any_within, fresh_count, fresh_on, fresh
 use Rattle.cms_model.specs.Minidisks.{File, State, Volume, Not}
 use Rattle.cms_names.specs.declared.name.Format.TheVariants.{F}
 use Rattle.cms_model.specs.Sizes.{directory_more, file_size, free_count, map_size, stored_size, tree_size, used_count, levels, levels_from, pointer_count, pointers_to}
-use Rattle.cms_machine.specs.Acts.{Act, typed_line}
-use Rattle.cms_machine.specs.Feeds.{Close, Over, WaitsForScript, WaitsForMoment, WaitsForObject, feed}
-use Rattle.cms_machine.specs.Items.{Item, Text, Bad, Long, Rest}
-use Rattle.cms_machine.specs.Slots.{Slot, Settled, Doubt, Before, After}
-use Rattle.cms_machine.specs.Steps.{Outcome, Good, SyncFault, ReadFault, OldFault, EitherFault}
+use Rattle.cms_model.specs.Acts.{Act, typed_line}
+use Rattle.cms_model.specs.Feeds.{Close, Over, WaitsForScript, WaitsForMoment, WaitsForObject, feed}
+use Rattle.cms_model.specs.Items.{Item, Text, Bad, Long, Rest}
+use Rattle.cms_model.specs.Slots.{Slot, Settled, Doubt, Before, After}
+use Rattle.cms_model.specs.Steps.{Outcome, Good, SyncFault, ReadFault, OldFault, EitherFault}
 use Rattle.cms_line.specs.Messages.{message_text}
 use Rattle.cms_line.specs.Options.{options_from, options_of}
 use Rattle.cms_line.specs.Tokens.{tokens_from, tokens_of}

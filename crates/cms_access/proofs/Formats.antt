@@ -3,9 +3,9 @@ use Rattle.std.proofs.Common.{◌≡◌, ◌≢◌, ◌<◌, ◌∙◌, ℕ, Lis
 use Rattle.std.specs.Prelude.{Bool, true, false, Option, Some, None, IfOk, option_map, pos, slice_get, unwrap_or}
 use Rattle.std.specs.Option.{option_and_then}
 use Rattle.std.proofs.lemmas.Bool.{eq-eqb, ne_eqb}
-use Rattle.cms_machine.specs.Acts.{Act, saying, typed_line}
-use Rattle.cms_machine.specs.Slots.{Settled, Doubt, Slot}
-use Rattle.cms_machine.specs.Steps.{is_doubt}
+use Rattle.cms_model.specs.Acts.{Act, saying, typed_line}
+use Rattle.cms_model.specs.Slots.{Settled, Doubt, Slot}
+use Rattle.cms_model.specs.Steps.{is_doubt}
 use Rattle.cms_journal.specs.Journal.{Journal}
 use Rattle.cms_line.specs.Messages.{message_text}
 use Rattle.cms_line.specs.declared.message.Message.TheVariants.{M037, M069, M113, M115}

@@ -9,7 +9,7 @@ use Rattle.cms_journal.specs.Told.{Told}
 use Rattle.cms_fields.specs.Moments.{stamp_of}
 use Rattle.cms_fields.specs.declared.time.Stamp.{Stamp}
 use Rattle.cms_text.specs.Numbers.{decimal_of}
-use Rattle.cms_machine.specs.Acts.{saying, typed_line}
+use Rattle.cms_model.specs.Acts.{saying, typed_line}
 use Rattle.cms_line.specs.Messages.{message_text}
 use Rattle.cms_line.specs.declared.message.Message.TheVariants.{M105, M733}
 use Rattle.cms_world.specs.Seen.{Seen}

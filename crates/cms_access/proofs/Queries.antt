@@ -14,8 +14,8 @@ use Rattle.cms_map.specs.Bits.{free_blocks}
 use Rattle.cms_model.specs.Minidisks.{File, Minidisk}
 use Rattle.cms_model.specs.Sizes.{free_count}
 use Rattle.cms_model.specs.LawsUpdates.{now}
-use Rattle.cms_machine.specs.Acts.{Act, Done, bind, saying, typed_line}
-use Rattle.cms_machine.specs.Slots.{Slot}
+use Rattle.cms_model.specs.Acts.{Act, Done, bind, saying, typed_line}
+use Rattle.cms_model.specs.Slots.{Slot}
 use Rattle.cms_held.specs.HeldVolumes.{HeldFile, HeldVolume}
 use Rattle.cms_held.specs.LawsHeld.{HasRoomOf}
 use Rattle.cms_held.proofs.HeldFiles.{opened_has_room}

@@ -7,8 +7,8 @@ use Rattle.std.proofs.lemmas.List.{length-drop, length-take}
 use Rattle.std.specs.List.{list_all, prefix_len, suffix_len}
 use Rattle.cms_text.specs.Texts.{is_blank, without_leading_blanks, without_trailing_blanks}
 use Rattle.cms_names.specs.Names.{is_name_character}
-use Rattle.cms_machine.specs.Acts.{Act, Done, Out, bind, saying, typed_line}
-use Rattle.cms_machine.specs.Slots.{Slot}
+use Rattle.cms_model.specs.Acts.{Act, Done, Out, bind, saying, typed_line}
+use Rattle.cms_model.specs.Slots.{Slot}
 use Rattle.cms_line.specs.Messages.{message_text}
 use Rattle.cms_line.specs.declared.message.Message.{Message}
 use Rattle.cms_line.specs.declared.message.Message.TheVariants.{M062}

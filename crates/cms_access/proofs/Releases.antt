@@ -4,8 +4,8 @@ use Rattle.std.specs.Prelude.{Bool, true, ◌==◌, Option, Some, None, IsSome, 
 use Rattle.std.specs.Option.{option_and_then, option_map}
 use Rattle.std.proofs.lemmas.List.Quantifiers.{position-Some}
 use Rattle.std.proofs.lemmas.Option.{slice_get-get_or}
-use Rattle.cms_machine.specs.Acts.{Act, Done, saying, typed_line}
-use Rattle.cms_machine.specs.Slots.{Slot}
+use Rattle.cms_model.specs.Acts.{Act, Done, saying, typed_line}
+use Rattle.cms_model.specs.Slots.{Slot}
 use Rattle.cms_line.specs.Messages.{message_text}
 use Rattle.cms_line.specs.declared.message.Message.TheVariants.{M069, M113}
 use Rattle.cms_disk.specs.declared.unit.UnitInfo.{UnitInfo}

@@ -19,15 +19,15 @@ use Rattle.cms_model.specs.Minidisks.{Not, Volume}
 use Rattle.cms_model.specs.Settled.{IsFirm}
 use Rattle.cms_model.specs.Volumes as volumes
 use Rattle.cms_model.specs.Volumes.{state_of}
-use Rattle.cms_machine.specs.Acts.{Act, Done, Does, Out, typed_line}
-use Rattle.cms_machine.specs.Beats.{Covers, KeepsConsole}
-use Rattle.cms_machine.specs.Points.{HasNow, Leaves, Point}
-use Rattle.cms_machine.specs.Runs.{Ran}
-use Rattle.cms_machine.specs.Slots.{Doubt, IsAmong, Side, Settled, Slot, set_of, state_in, unit_set}
-use Rattle.cms_machine.specs.Steps.{EitherFault, Good, IsOf, Make, OldFault, Outcome, Step, Wipe, faults_in, new_slot, slot_after, unit_of, units_after}
-use Rattle.cms_machine.proofs.Join.{ran_then}
-use Rattle.cms_machine.proofs.Single.{ran_step}
-use Rattle.cms_machine.proofs.Units.{get_other, get_same, other_slot, units_put}
+use Rattle.cms_model.specs.Acts.{Act, Done, Does, Out, typed_line}
+use Rattle.cms_model.specs.Beats.{Covers, KeepsConsole}
+use Rattle.cms_model.specs.Points.{HasNow, Leaves, Point}
+use Rattle.cms_model.specs.Runs.{Ran}
+use Rattle.cms_model.specs.Slots.{Doubt, IsAmong, Side, Settled, Slot, set_of, state_in, unit_set}
+use Rattle.cms_model.specs.Steps.{EitherFault, Good, IsOf, Make, OldFault, Outcome, Step, Wipe, faults_in, new_slot, slot_after, unit_of, units_after}
+use Rattle.cms_model.proofs.Join.{ran_then}
+use Rattle.cms_model.proofs.Single.{ran_step}
+use Rattle.cms_model.proofs.Units.{get_other, get_same, other_slot, units_put}
 use Rattle.cms_line.specs.ConsoleState.{Console}
 use Rattle.cms_line.specs.Messages.{message_text}
 use Rattle.cms_line.specs.declared.message.Message.TheVariants.{M105, M733}

@@ -2,7 +2,7 @@
 use Rattle.std.specs.Prelude.{ℕ, pos, Bool, List, Result, Ok, if◌then◌else◌}
 use Rattle.cms_fields.specs.Steps.{◌>>=◌, ◌>>◌}
 use Rattle.cms_text.specs.Numbers.{decimal_of}
-use Rattle.cms_machine.specs.Acts.{Act, Done, Out, bind, typed_line}
+use Rattle.cms_model.specs.Acts.{Act, Done, Out, bind, typed_line}
 use Rattle.cms_line.specs.Messages.{message_text}
 use Rattle.cms_line.specs.declared.message.Message.TheVariants.{M112, M723}
 use Rattle.cms_line.specs.declared.token.Token.{Token}

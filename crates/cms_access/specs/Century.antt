@@ -2,7 +2,7 @@
 use Rattle.std.specs.Prelude.{if◌then◌else◌, List, Option, Some, None, Result, Ok}
 use Rattle.cms_fields.specs.Steps.{◌>>=◌, ◌>>◌}
 use Rattle.cms_model.specs.Changes as model
-use Rattle.cms_machine.specs.Acts.{Act, bind}
+use Rattle.cms_model.specs.Acts.{Act, bind}
 use Rattle.cms_line.specs.declared.token.Token.{Token}
 use Rattle.cms_operands.specs.Choices.{without_options}
 use Rattle.cms_operands.specs.Operands.{ended, letter, needed, operands_of}

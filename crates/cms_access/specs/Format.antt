@@ -10,9 +10,9 @@ use Rattle.cms_text.specs.Numbers.{decimal_of}
 use Rattle.cms_text.specs.Texts.{is_keyword, without_leading_blanks, without_trailing_blanks}
 use Rattle.cms_model.specs.Changes.{Relabel, empty_minidisk}
 use Rattle.cms_model.specs.Minidisks.{Minidisk, Not}
-use Rattle.cms_machine.specs.Acts.{Act, Done, Out, Does, bind, typed_line}
-use Rattle.cms_machine.specs.Slots.{Slot, state_in}
-use Rattle.cms_machine.specs.Steps.{Step, Wipe, Make, Outcome, is_doubt}
+use Rattle.cms_model.specs.Acts.{Act, Done, Out, Does, bind, typed_line}
+use Rattle.cms_model.specs.Slots.{Slot, state_in}
+use Rattle.cms_model.specs.Steps.{Step, Wipe, Make, Outcome, is_doubt}
 use Rattle.cms_line.specs.Messages.{message_text}
 use Rattle.cms_line.specs.declared.message.Message.TheVariants.{M062, M114, M115, M603, M605, M733}
 use Rattle.cms_line.specs.declared.token.Token.{Token}

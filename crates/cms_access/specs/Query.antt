@@ -7,7 +7,7 @@ use Rattle.cms_text.specs.Numbers.{decimal_of}
 use Rattle.cms_text.specs.Texts.{coded, ebcdic, is_keyword}
 use Rattle.cms_model.specs.Minidisks.{Minidisk}
 use Rattle.cms_model.specs.Sizes.{free_count}
-use Rattle.cms_machine.specs.Acts.{Act, Done}
+use Rattle.cms_model.specs.Acts.{Act, Done}
 use Rattle.cms_line.specs.declared.token.Token.{Token}
 use Rattle.cms_operands.specs.Choices.{without_options}
 use Rattle.cms_access.specs.declared.query.Question.{Question}

@@ -1,7 +1,7 @@
 -- What the questions of FORMAT come to, on the session's state.
 use Rattle.std.specs.Prelude.{List}
-use Rattle.cms_machine.specs.Acts.{Act, Out, typed_line}
-use Rattle.cms_machine.specs.Slots.{Slot}
+use Rattle.cms_model.specs.Acts.{Act, Out, typed_line}
+use Rattle.cms_model.specs.Slots.{Slot}
 use Rattle.cms_line.specs.Messages.{message_text}
 use Rattle.cms_line.specs.declared.message.Message.{Message}
 use Rattle.cms_search.specs.Asks.{Asked}

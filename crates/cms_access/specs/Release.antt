@@ -1,7 +1,7 @@
 -- RELEASE vdev or mode
 use Rattle.std.specs.Prelude.{ℕ, pos, List, Option, Some, None, Result, Ok}
 use Rattle.cms_fields.specs.Steps.{◌>>=◌, ◌>>◌}
-use Rattle.cms_machine.specs.Acts.{Act, Done}
+use Rattle.cms_model.specs.Acts.{Act, Done}
 use Rattle.cms_line.specs.declared.message.Message.TheVariants.{M069}
 use Rattle.cms_line.specs.declared.token.Token.{Token}
 use Rattle.cms_operands.specs.Choices.{without_options}

@@ -1,7 +1,7 @@
 // ACCESS.
 ghost use Rattle.cms_operands.specs.Choices.{AnswersLine};
 ghost use Rattle.std.specs.Prelude.{◌≡◌, ◌<◌, IfOk, pos};
-ghost use Rattle.cms_machine.specs.Acts.{saying, typed_line};
+ghost use Rattle.cms_model.specs.Acts.{saying, typed_line};
 ghost use Rattle.cms_line.specs.Messages.{message_text};
 ghost use Rattle.cms_line.specs.declared.message.Message.TheVariants.{M112, M723};
 ghost use Rattle.cms_search.specs.Calls.{Acts, Does, IsUsable, course_of, machine_of, said, spot};

@@ -1,7 +1,7 @@
 // FORMAT makes an empty volume.
 ghost use Rattle.std.specs.Prelude.{◌≡◌, ◌≤◌, ◌<◌, true, Some, IfOk, pos};
 ghost use Rattle.cms_fields.specs.Moments.{is_moment};
-ghost use Rattle.cms_machine.specs.Acts.{saying, typed_line};
+ghost use Rattle.cms_model.specs.Acts.{saying, typed_line};
 ghost use Rattle.cms_line.specs.Messages.{message_text};
 ghost use Rattle.cms_line.specs.declared.message.Message.TheVariants.{M733};
 ghost use Rattle.cms_text.specs.Numbers.{decimal_of};

@@ -1,7 +1,7 @@
 // QUERY.
 ghost use Rattle.cms_operands.specs.Choices.{AnswersLine};
 ghost use Rattle.std.specs.Prelude.{◌≡◌, ◌∷◌, IfOk, pos};
-ghost use Rattle.cms_machine.specs.Acts.{Done};
+ghost use Rattle.cms_model.specs.Acts.{Done};
 ghost use Rattle.cms_search.specs.Calls.{Acts, Does, course_of, machine_of, said, spot};
 ghost use Rattle.cms_search.specs.Machine.{letter_at, typing};
 ghost use Rattle.cms_search.specs.declared.state.Course.TheVariants.{Went};

@@ -1,7 +1,7 @@
 // The lines of disks.
 ghost use Rattle.std.specs.Prelude.{◌≡◌, ◌∷◌, ◌++◌, ◌-◌, ◌==◌, ◌&&◌, ◌≤◌, not, if◌then◌else◌, [], IfOk, OnOk};
 ghost use Rattle.cms_text.specs.Numbers.{decimal_of};
-ghost use Rattle.cms_machine.specs.Acts.{Done};
+ghost use Rattle.cms_model.specs.Acts.{Done};
 ghost use Rattle.cms_search.specs.Calls.{Does, said};
 ghost use Rattle.cms_search.specs.Machine.{typing};
 ghost use Rattle.cms_search.specs.Searches.{item_at};

@@ -14,8 +14,8 @@ use Rattle.cms_fields.specs.declared.time.Stamp.{Stamp}
 use Rattle.cms_model.specs.Changes.{Put}
 use Rattle.cms_model.specs.Minidisks.{File}
 use Rattle.cms_model.specs.declared.file.FileData.{FileData}
-use Rattle.cms_machine.specs.Acts.{Act, saying, typed_line}
-use Rattle.cms_machine.specs.Slots.{Slot}
+use Rattle.cms_model.specs.Acts.{Act, saying, typed_line}
+use Rattle.cms_model.specs.Slots.{Slot}
 use Rattle.cms_line.specs.Messages.{message_text}
 use Rattle.cms_line.specs.declared.message.Message.TheVariants.{M124, M125}
 use Rattle.cms_line.specs.declared.token.Token.{Token}

@@ -1,8 +1,8 @@
 -- What the calls' values mean.
 use Rattle.std.specs.Prelude.{◌≡◌, ⊤, ℕ, zero, suc, pos, negsuc, drop, Bool, false, List, Option, Some, None, unwrap_or, Result, Ok, Err}
 use Rattle.cms_names.specs.declared.name.Name.{Name}
-use Rattle.cms_machine.specs.Acts.{Act}
-use Rattle.cms_machine.specs.Slots.{Slot}
+use Rattle.cms_model.specs.Acts.{Act}
+use Rattle.cms_model.specs.Slots.{Slot}
 use Rattle.cms_line.specs.declared.token.Token.{Token}
 use Rattle.cms_model.specs.Records.{IsValid}
 use Rattle.cms_records.specs.Stored.{records_in}

@@ -1,7 +1,7 @@
 -- PUNCH, READCARD and DISK: the machine, and beside it the decks of a virtual reader.
 use Rattle.std.specs.Prelude.{ℕ, zero, suc, pos, negsuc, ◌==◌, Bool, true, false, List, [], ◌∷◌, ◌++◌, drop, length, slice_get, Option, Result, Ok, Err}
 use Rattle.cms_model.specs.Minidisks.{File}
-use Rattle.cms_machine.specs.Acts.{Act, Done, bind}
+use Rattle.cms_model.specs.Acts.{Act, Done, bind}
 use Rattle.cms_line.specs.declared.token.Token.{Token}
 use Rattle.cms_operands.specs.Refusals.{code_of, message_of}
 use Rattle.cms_operands.specs.declared.operand.WriteMode.{WriteMode}

@@ -3,7 +3,7 @@ use Rattle.std.specs.Prelude.{ℕ, ◌&&◌, Bool, nat_lt, if◌then◌else◌, 
 use Rattle.cms_names.specs.declared.name.Name.{Name}
 use Rattle.cms_text.specs.Numbers.{decimal_of}
 use Rattle.cms_model.specs.Minidisks.{File}
-use Rattle.cms_machine.specs.Acts.{Act, Done, bind}
+use Rattle.cms_model.specs.Acts.{Act, Done, bind}
 use Rattle.cms_line.specs.declared.message.Message.TheVariants.{M120, M123}
 use Rattle.cms_line.specs.declared.token.Token.{Token}
 use Rattle.cms_search.specs.ChangeTold.{limited}

@@ -5,7 +5,7 @@ use Rattle.cms_names.specs.declared.name.Name.{Name}
 use Rattle.cms_fields.specs.Moments.{stamp_of}
 use Rattle.cms_model.specs.Changes.{Put}
 use Rattle.cms_model.specs.Minidisks.{File}
-use Rattle.cms_machine.specs.Acts.{Act}
+use Rattle.cms_model.specs.Acts.{Act}
 use Rattle.cms_line.specs.declared.message.Message.TheVariants.{M124, M125}
 use Rattle.cms_line.specs.declared.token.Token.{Token}
 use Rattle.cms_operands.specs.declared.operand.WriteMode.{WriteMode}

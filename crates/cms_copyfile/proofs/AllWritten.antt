@@ -9,10 +9,10 @@ use Rattle.cms_fields.specs.Moments.{stamp_of}
 use Rattle.cms_fields.specs.declared.time.Stamp.{Stamp}
 use Rattle.cms_model.specs.Changes.{Change, changed}
 use Rattle.cms_model.specs.Minidisks.{Volume}
-use Rattle.cms_machine.specs.Acts.{Act, Does, bind}
-use Rattle.cms_machine.specs.Runs.{Ran}
-use Rattle.cms_machine.specs.Slots.{Settled, Slot}
-use Rattle.cms_machine.specs.Steps.{Get, OldFault, is_relabel}
+use Rattle.cms_model.specs.Acts.{Act, Does, bind}
+use Rattle.cms_model.specs.Runs.{Ran}
+use Rattle.cms_model.specs.Slots.{Settled, Slot}
+use Rattle.cms_model.specs.Steps.{Get, OldFault, is_relabel}
 use Rattle.cms_draft.specs.declared.shape.DraftShape.{DraftShape}
 use Rattle.cms_line.specs.declared.token.Token.{Token}
 use Rattle.cms_line.specs.ConsoleState.{Console}

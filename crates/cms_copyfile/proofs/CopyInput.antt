@@ -10,8 +10,8 @@ use Rattle.cms_journal.specs.Told.{Told}
 use Rattle.cms_fields.specs.declared.entry.Entry.{Entry}
 use Rattle.cms_names.specs.declared.name.Name.{Name}
 use Rattle.cms_edf.specs.OpeningSteps.{OfImage}
-use Rattle.cms_machine.specs.Slots.{Settled, Slot}
-use Rattle.cms_machine.specs.Steps.{Offers}
+use Rattle.cms_model.specs.Slots.{Settled, Slot}
+use Rattle.cms_model.specs.Steps.{Offers}
 use Rattle.cms_model.specs.Changes.{file_named}
 use Rattle.cms_model.specs.LawsUpdates.{now}
 use Rattle.cms_model.specs.Minidisks.{File, Minidisk, Volume, same_name}

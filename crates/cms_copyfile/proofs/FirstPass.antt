@@ -3,11 +3,11 @@ use Rattle.std.proofs.Common.{◌≡◌, ◌⊎◌, ◌∙◌, ℕ, List, Result
 use Rattle.cms_journal.specs.Causes.{Rose}
 use Rattle.cms_journal.proofs.Counts.{counted_one}
 use Rattle.cms_edf.specs.OpeningSteps.{OfImage}
-use Rattle.cms_machine.specs.Acts.{Act, Does}
-use Rattle.cms_machine.specs.Runs.{Ran}
-use Rattle.cms_machine.specs.Slots.{Slot}
-use Rattle.cms_machine.specs.Steps.{Get, ReadFault}
-use Rattle.cms_machine.proofs.Single.{ran_still}
+use Rattle.cms_model.specs.Acts.{Act, Does}
+use Rattle.cms_model.specs.Runs.{Ran}
+use Rattle.cms_model.specs.Slots.{Slot}
+use Rattle.cms_model.specs.Steps.{Get, ReadFault}
+use Rattle.cms_model.proofs.Single.{ran_still}
 use Rattle.cms_line.specs.declared.token.Token.{Token}
 use Rattle.cms_disk.specs.Cursors.{HasLeft}
 use Rattle.cms_disk.specs.declared.fault.DiskFault.{DiskFault}

@@ -2,8 +2,8 @@
 use Rattle.std.proofs.Common.{◌≡◌, ◌∙◌, List, Result, Ok, Err, refl, sym, ap, subst}
 use Rattle.std.specs.Prelude.{Bool, false, true}
 use Rattle.cms_names.specs.declared.name.Name.{Name}
-use Rattle.cms_machine.specs.Acts.{Act, Done, bind}
-use Rattle.cms_machine.specs.Slots.{Slot}
+use Rattle.cms_model.specs.Acts.{Act, Done, bind}
+use Rattle.cms_model.specs.Slots.{Slot}
 use Rattle.cms_line.specs.declared.token.Token.{Token}
 use Rattle.cms_search.specs.Calls.{Acts, Spot, machine_of}
 use Rattle.cms_search.specs.DeviceSteps.{Did, Stepped}

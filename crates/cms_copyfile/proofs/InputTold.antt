@@ -17,7 +17,7 @@ use Rattle.cms_model.specs.declared.fault.VarFault.TheVariants.{Left, PastEnd, Z
 use Rattle.cms_model.proofs.Records.{fits_cut}
 use Rattle.cms_model.proofs.Results.{bind_then, ok_same, want_ok}
 use Rattle.cms_held.specs.HeldVolumes.{HeldFile}
-use Rattle.cms_machine.specs.Slots.{Slot}
+use Rattle.cms_model.specs.Slots.{Slot}
 use Rattle.cms_records.specs.Pieces.{RecordState, next_place}
 use Rattle.cms_edf.specs.FilesTold.{info_of, infos_in}
 use Rattle.cms_edf.specs.OpeningSteps.{OfImage}

@@ -11,7 +11,7 @@ use Rattle.cms_model.specs.Minidisks.{File, Minidisk}
 use Rattle.cms_model.specs.Trees.{Image}
 use Rattle.cms_model.specs.Volumes.{Opened, minidisk_of}
 use Rattle.cms_model.proofs.Results.{ok_same}
-use Rattle.cms_machine.specs.Slots.{Slot}
+use Rattle.cms_model.specs.Slots.{Slot}
 use Rattle.cms_disk.specs.Disks.{Accessed, IsMinidisk, StandsIn}
 use Rattle.cms_search.specs.Calls.{Spot, holds, machine_of}
 use Rattle.cms_search.specs.Machine.{letter_at}

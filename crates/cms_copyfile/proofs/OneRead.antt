@@ -3,12 +3,12 @@ use Rattle.std.proofs.Common.{◌≡◌, ◌∙◌, ℕ, ◌≤◌, List, [], Op
 use Rattle.std.specs.Prelude.{None}
 use Rattle.cms_journal.proofs.Counts.{counted_none}
 use Rattle.cms_model.specs.Changes.{Change}
-use Rattle.cms_machine.specs.Acts.{Act, Does, bind}
-use Rattle.cms_machine.specs.Runs.{Ran}
-use Rattle.cms_machine.specs.Slots.{Slot}
-use Rattle.cms_machine.specs.Steps.{Get, Good, Outcome}
-use Rattle.cms_machine.proofs.Join.{broke_bind, broke_then, ran_bind, ran_then}
-use Rattle.cms_machine.proofs.Single.{ran_still}
+use Rattle.cms_model.specs.Acts.{Act, Does, bind}
+use Rattle.cms_model.specs.Runs.{Ran}
+use Rattle.cms_model.specs.Slots.{Slot}
+use Rattle.cms_model.specs.Steps.{Get, Good, Outcome}
+use Rattle.cms_model.proofs.Join.{broke_bind, broke_then, ran_bind, ran_then}
+use Rattle.cms_model.proofs.Single.{ran_still}
 use Rattle.cms_line.specs.declared.token.Token.{Token}
 use Rattle.cms_search.specs.Calls.{Acts, Comes, IsLater, IsUsable, Meaning, Spot, at, holds, machine_of}
 use Rattle.cms_search.specs.DeviceSteps.{HasRead, Stepped, failing, handed, reading, silently}

@@ -12,14 +12,14 @@ use Rattle.cms_model.specs.LawsUpdates.{now}
 use Rattle.cms_model.specs.Minidisks.{File, Minidisk, State, Volume}
 use Rattle.cms_model.specs.Volumes as volumes
 use Rattle.cms_model.specs.Volumes.{state_of}
-use Rattle.cms_machine.specs.Acts.{Act, Does}
-use Rattle.cms_machine.specs.Beats.{AreStamped, Covers, FitsStep, KeepsConsole, OnlyDisk}
-use Rattle.cms_machine.specs.Points.{HasNow, HasNowIn, Point, Sound}
-use Rattle.cms_machine.specs.Runs.{Ran}
-use Rattle.cms_machine.specs.Slots.{Settled, Slot, state_in, unit_set, unit_state}
-use Rattle.cms_machine.specs.Steps.{Get, Offers, Outcome, ReadFault}
-use Rattle.cms_machine.proofs.Aside.{covers_aside, now_aside}
-use Rattle.cms_machine.proofs.Single.{OwnNow, ran_step_all}
+use Rattle.cms_model.specs.Acts.{Act, Does}
+use Rattle.cms_model.specs.Beats.{AreStamped, Covers, FitsStep, KeepsConsole, OnlyDisk}
+use Rattle.cms_model.specs.Points.{HasNow, HasNowIn, Point, Sound}
+use Rattle.cms_model.specs.Runs.{Ran}
+use Rattle.cms_model.specs.Slots.{Settled, Slot, state_in, unit_set, unit_state}
+use Rattle.cms_model.specs.Steps.{Get, Offers, Outcome, ReadFault}
+use Rattle.cms_model.proofs.Aside.{covers_aside, now_aside}
+use Rattle.cms_model.proofs.Single.{OwnNow, ran_step_all}
 use Rattle.cms_disk.specs.Disks.{Accessed, IsLookedAt}
 use Rattle.cms_disk.specs.Drafts.{Stands, WritesAside}
 use Rattle.cms_disk.proofs.CrashStates.{covers_looked}

@@ -11,10 +11,10 @@ use Rattle.cms_journal.proofs.Pieces.{grown_same}
 use Rattle.cms_names.specs.declared.name.Name.{Name}
 use Rattle.cms_fields.specs.declared.time.Stamp.{Stamp}
 use Rattle.cms_model.specs.Changes.{Add, Answer, Century, Change, Changed, Drop, Full, Limited, Put, Relabel, Rename, changed, file_named, need}
-use Rattle.cms_machine.specs.Beats.{written_count}
+use Rattle.cms_model.specs.Beats.{written_count}
 use Rattle.cms_model.specs.LawsUpdates.{now as now_of}
 use Rattle.cms_model.specs.Minidisks.{Minidisk}
-use Rattle.cms_machine.specs.Steps.{MayPut, OldFault, ReadFault, is_relabel, put_syncs}
+use Rattle.cms_model.specs.Steps.{MayPut, OldFault, ReadFault, is_relabel, put_syncs}
 use Rattle.cms_draft.specs.BlockWriters.{CanWrite, came}
 use Rattle.cms_held.specs.Drafts.{Front, stored_on}
 use Rattle.cms_draft.specs.FileWriters.{FileWriter, Drafts, HaveShape}

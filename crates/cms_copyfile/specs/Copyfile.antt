@@ -8,7 +8,7 @@ use Rattle.cms_fields.specs.Steps.{◌>>=◌, ◌>>◌}
 use Rattle.cms_text.specs.Numbers.{decimal_of}
 use Rattle.cms_model.specs.Changes.{Change, Add, Put}
 use Rattle.cms_model.specs.Minidisks.{File, same_name}
-use Rattle.cms_machine.specs.Acts.{Act, Done, bind}
+use Rattle.cms_model.specs.Acts.{Act, Done, bind}
 use Rattle.cms_line.specs.declared.message.Message.TheVariants.{M121}
 use Rattle.cms_line.specs.declared.token.Token.{Token}
 use Rattle.cms_operands.specs.declared.operand.WriteMode.{WriteMode}

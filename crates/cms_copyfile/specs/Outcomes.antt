@@ -2,7 +2,7 @@
 use Rattle.std.specs.Prelude.{◌≡◌, ℕ, List, Some}
 use Rattle.cms_fields.specs.Moments.{stamp_of}
 use Rattle.cms_journal.specs.Journal.{Journal}
-use Rattle.cms_machine.specs.Slots.{Slot}
+use Rattle.cms_model.specs.Slots.{Slot}
 use Rattle.cms_model.specs.Changes.{Change}
 use Rattle.cms_model.specs.Minidisks.{Minidisk}
 use Rattle.cms_disk.specs.Changes.{ChangesDisk}

@@ -1,7 +1,7 @@
 // What follows the update of the output's disk.
 ghost use Rattle.std.specs.Prelude.{◌≡◌, ◌∷◌, List, [], IsSome, Result, ⊤};
 ghost use Rattle.cms_line.specs.declared.token.Token as tokens;
-ghost use Rattle.cms_machine.specs.Slots.{Slot};
+ghost use Rattle.cms_model.specs.Slots.{Slot};
 ghost use Rattle.cms_model.specs.Changes as model;
 ghost use Rattle.cms_search.specs.Calls.{Acts, Spot, machine_of, spot, spot_at};
 ghost use Rattle.cms_search.specs.FileWrites as putting;

@@ -10,8 +10,8 @@ use Rattle.cms_model.specs.Minidisks.{Minidisk, State, Volume}
 use Rattle.cms_model.specs.Volumes.{Disk}
 use Rattle.cms_model.proofs.Fronts.{front_nil}
 use Rattle.cms_model.specs.Changes.{Add, Answer, Change, Changed, Full, Limited, answer_of, changed, file_named}
-use Rattle.cms_machine.specs.Slots.{Settled, Slot, set_of}
-use Rattle.cms_machine.specs.Steps.{MayPut, ReadFault, after_put, put_syncs}
+use Rattle.cms_model.specs.Slots.{Settled, Slot, set_of}
+use Rattle.cms_model.specs.Steps.{MayPut, ReadFault, after_put, put_syncs}
 use Rattle.cms_model.specs.declared.file.FileData.{FileData}
 use Rattle.cms_draft.specs.declared.shape.DraftShape.{DraftShape}
 use Rattle.cms_disk.specs.Additions.{HasRoomFor, IsAddFault, IsMoreFault, IsNotExtended}

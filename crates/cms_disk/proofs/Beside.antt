@@ -9,11 +9,11 @@ use Rattle.cms_fields.specs.declared.time.Stamp.{Stamp}
 use Rattle.cms_model.specs.Minidisks.{Minidisk, State, Volume}
 use Rattle.cms_model.specs.Changes.{Change, answer_of}
 use Rattle.cms_model.specs.Volumes.{Disk}
-use Rattle.cms_machine.specs.Beats.{AreStamped, IsStamped, MayWrite, written_count}
-use Rattle.cms_machine.specs.Slots.{Settled, set_of}
-use Rattle.cms_machine.specs.Steps.{Outcome, Put, most_put, put_stamp, slot_after}
-use Rattle.cms_machine.proofs.Aside.{of_disk}
-use Rattle.cms_machine.proofs.Lists.{split}
+use Rattle.cms_model.specs.Beats.{AreStamped, IsStamped, MayWrite, written_count}
+use Rattle.cms_model.specs.Slots.{Settled, set_of}
+use Rattle.cms_model.specs.Steps.{Outcome, Put, most_put, put_stamp, slot_after}
+use Rattle.cms_model.proofs.Aside.{of_disk}
+use Rattle.cms_model.proofs.Lists.{split}
 use Rattle.cms_disk.specs.Changes.{Changes}
 use Rattle.cms_disk.specs.CrashStates.{CoversOn, LeavesOn}
 use Rattle.cms_disk.specs.Drafts.{WritesAside}

@@ -15,10 +15,10 @@ use Rattle.cms_model.specs.Changes.{Century, Change, Changed, Full, Drop, Rename
 use Rattle.cms_model.specs.Settled.{update, writes}
 use Rattle.cms_model.specs.LawsUpdates.{IsFront, after, now, relabel, to_label, with_label}
 use Rattle.cms_model.proofs.Fronts.{none_front}
-use Rattle.cms_machine.specs.Slots.{Side}
-use Rattle.cms_machine.specs.Steps.{Outcome, Good, OldFault, EitherFault, is_relabel, put_stamp, put_syncs, update_syncs}
-use Rattle.cms_machine.specs.Beats.{AreStamped, IsStamped}
-use Rattle.cms_machine.proofs.StepsFit.{syncs_counted}
+use Rattle.cms_model.specs.Slots.{Side}
+use Rattle.cms_model.specs.Steps.{Outcome, Good, OldFault, EitherFault, is_relabel, put_stamp, put_syncs, update_syncs}
+use Rattle.cms_model.specs.Beats.{AreStamped, IsStamped}
+use Rattle.cms_model.proofs.StepsFit.{syncs_counted}
 use Rattle.cms_map.specs.Bits.{free_blocks}
 use Rattle.cms_held.specs.LawsRenewals.{writes_of}
 use Rattle.cms_held.specs.MinidiskUpdates.{IsEditOf, drops, renames}

@@ -18,10 +18,10 @@ use Rattle.cms_model.proofs.Images.{crash_now}
 use Rattle.cms_model.proofs.Renewed.{minidisk_is}
 use Rattle.cms_model.proofs.SettledUnits.{settled_is_firm}
 use Rattle.cms_model.proofs.Stands.{opened_stands}
-use Rattle.cms_machine.specs.Slots.{Side, Before, After, Settled, set_of, named}
-use Rattle.cms_machine.specs.Steps.{Put, Outcome, Good, OldFault, EitherFault, MayPut, after_put, most_put, put_stamp, put_syncs, slot_after}
-use Rattle.cms_machine.specs.Beats.{AreStamped, HasStamp, IsStamped, written_count}
-use Rattle.cms_machine.proofs.Aside.{of_disk}
+use Rattle.cms_model.specs.Slots.{Side, Before, After, Settled, set_of, named}
+use Rattle.cms_model.specs.Steps.{Put, Outcome, Good, OldFault, EitherFault, MayPut, after_put, most_put, put_stamp, put_syncs, slot_after}
+use Rattle.cms_model.specs.Beats.{AreStamped, HasStamp, IsStamped, written_count}
+use Rattle.cms_model.proofs.Aside.{of_disk}
 use Rattle.cms_journal.proofs.Sizes.{block_bounds}
 use Rattle.cms_held.specs.LawsRenewals.{writes_of}
 use Rattle.cms_held.specs.Renewals.{Edit, entries_held}

@@ -11,8 +11,8 @@ use Rattle.cms_model.specs.Settled.{EachCrash, MayLeave}
 use Rattle.cms_model.specs.Trees.{image_of}
 use Rattle.cms_model.specs.Volumes.{Disk, state_of}
 use Rattle.cms_model.proofs.Fronts.{after_is_told}
-use Rattle.cms_machine.specs.Beats.{Covers}
-use Rattle.cms_machine.specs.Points.{Leaves, LeavesIn}
+use Rattle.cms_model.specs.Beats.{Covers}
+use Rattle.cms_model.specs.Points.{Leaves, LeavesIn}
 use Rattle.cms_disk.specs.CrashStates.{CoversOn, LeavesOn, LeavesOnIn, LooksAs}
 use Rattle.cms_disk.specs.LawsDisks.{LookedAtIsCovered}
 

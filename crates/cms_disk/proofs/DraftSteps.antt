@@ -17,8 +17,8 @@ use Rattle.cms_model.specs.Records.{length_of, stored}
 use Rattle.cms_model.specs.Settled.{Write, update, writes}
 use Rattle.cms_model.specs.Changes.{Add, Century, Change, Changed, Drop, Put, Relabel, Rename, changed, need}
 use Rattle.cms_model.proofs.Fronts.{front_nil}
-use Rattle.cms_machine.specs.Beats.{AreStamped, written_count}
-use Rattle.cms_machine.proofs.StepsFit.{syncs_counted, no_syncs}
+use Rattle.cms_model.specs.Beats.{AreStamped, written_count}
+use Rattle.cms_model.proofs.StepsFit.{syncs_counted, no_syncs}
 use Rattle.cms_tree.specs.Climbs.{AreOwn}
 use Rattle.cms_held.specs.HeldVolumes.{HeldFile, HeldVolume, Held}
 use Rattle.cms_held.specs.MinidiskUpdates.{IsHeldMinidisk}
@@ -42,8 +42,8 @@ use Rattle.cms_edf.proofs.Committed.{left_own}
 use Rattle.cms_edf.proofs.DraftPut.{blocks_there, more_edit}
 use Rattle.cms_edf.proofs.Finished.{to_front, with_front, writes_to}
 use Rattle.cms_edf.proofs.Planned.{all_in}
-use Rattle.cms_machine.specs.Slots.{Side}
-use Rattle.cms_machine.specs.Steps.{EitherFault, Good, MayPut, OldFault, put_stamp, put_syncs, update_syncs}
+use Rattle.cms_model.specs.Slots.{Side}
+use Rattle.cms_model.specs.Steps.{EitherFault, Good, MayPut, OldFault, put_stamp, put_syncs, update_syncs}
 use Rattle.cms_disk.specs.Changes.{Altered, Alters, IsDevices, fault_of}
 use Rattle.cms_disk.specs.declared.fault.DiskFault.{DiskFault}
 use Rattle.cms_disk.specs.Disks.{Accessed, IsMinidisk, IsReadable}

@@ -17,10 +17,10 @@ use Rattle.cms_edf.specs.Growths.{IsMoreFor}
 use Rattle.cms_edf.proofs.DraftPut.{more_edit, more_edit_is, more_is_some, new_edit_is, new_is_some}
 use Rattle.cms_model.specs.Changes.{Add, Answer, Change, Changed, Full, Limited, Put, answer_of, changed}
 use Rattle.cms_model.specs.declared.file.FileData.{FileData}
-use Rattle.cms_machine.specs.Beats.{written_count}
-use Rattle.cms_machine.specs.Slots.{Settled, named, set_of}
-use Rattle.cms_machine.specs.Steps.{EitherFault, MayPut, OldFault, after_put, most_put, put_stamp, put_syncs}
-use Rattle.cms_machine.proofs.Aside.{of_disk}
+use Rattle.cms_model.specs.Beats.{written_count}
+use Rattle.cms_model.specs.Slots.{Settled, named, set_of}
+use Rattle.cms_model.specs.Steps.{EitherFault, MayPut, OldFault, after_put, most_put, put_stamp, put_syncs}
+use Rattle.cms_model.proofs.Aside.{of_disk}
 use Rattle.cms_held.specs.HeldVolumes.{HeldFile, HeldTree, HeldVolume}
 use Rattle.cms_held.specs.Renewals.{Edit, renewed}
 use Rattle.cms_held.proofs.Fronts.{if_err}

@@ -26,11 +26,11 @@ use Rattle.cms_model.proofs.Images.{contents_have, put_same, synced_contents, wr
 use Rattle.cms_model.proofs.Renewed.{minidisk_is}
 use Rattle.cms_model.proofs.SettledUnits.{settled_is_firm}
 use Rattle.cms_model.proofs.Wipes.{wipe_is_whole, wiped_is_none}
-use Rattle.cms_machine.specs.Slots.{Side, Before, After, Settled, named, set_of, state_in}
-use Rattle.cms_machine.specs.Steps.{Outcome, Good, OldFault, EitherFault, Make, MayMake, slot_after, update_syncs}
-use Rattle.cms_machine.specs.Beats.{AreStamped, HasStamp, IsStamped, written_count}
-use Rattle.cms_machine.proofs.Aside.{of_disk}
-use Rattle.cms_machine.proofs.StepsFit.{syncs_counted, update_count as two_syncs}
+use Rattle.cms_model.specs.Slots.{Side, Before, After, Settled, named, set_of, state_in}
+use Rattle.cms_model.specs.Steps.{Outcome, Good, OldFault, EitherFault, Make, MayMake, slot_after, update_syncs}
+use Rattle.cms_model.specs.Beats.{AreStamped, HasStamp, IsStamped, written_count}
+use Rattle.cms_model.proofs.Aside.{of_disk}
+use Rattle.cms_model.proofs.StepsFit.{syncs_counted, update_count as two_syncs}
 use Rattle.cms_held.specs.MinidiskUpdates.{IsHeldMinidisk}
 use Rattle.cms_held.specs.EmptyVolumes.{MakePlan, IsEmptyVolume, IsReadyUnit, MakesEmpty, made_volume, made_writes}
 use Rattle.cms_held.specs.HeldVolumes.{HeldVolume}

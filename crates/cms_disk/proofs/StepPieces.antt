@@ -31,8 +31,8 @@ use Rattle.cms_model.proofs.Images.{image_past, synced_contents, wrote_other}
 use Rattle.cms_model.proofs.Repeats.{times_first, times_later}
 use Rattle.cms_tree.specs.Climbs.{AreOwn}
 use Rattle.cms_tree.proofs.Own.{writes_append}
-use Rattle.cms_machine.specs.Beats.{AreStamped, HasStamp, IsStamped, written_count}
-use Rattle.cms_machine.specs.Slots.{IsAmong}
+use Rattle.cms_model.specs.Beats.{AreStamped, HasStamp, IsStamped, written_count}
+use Rattle.cms_model.specs.Slots.{IsAmong}
 use Rattle.cms_held.specs.LawsRenewals.{AreBlocks}
 use Rattle.cms_held.specs.MinidiskUpdates as held
 use Rattle.cms_held.specs.Systems.{Systems, block_writes, directory_bytes_of, system_entry}

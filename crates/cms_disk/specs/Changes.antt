@@ -12,10 +12,10 @@ use Rattle.cms_model.specs.DirectoryParts.{all_entries}
 use Rattle.cms_model.specs.Volumes.{Disk, state_of}
 use Rattle.cms_model.specs.LawsSizes.{IsWhole}
 use Rattle.cms_model.specs.LawsUpdates.{now}
-use Rattle.cms_machine.specs.Slots.{Side, Before, After, Settled, set_of, named}
-use Rattle.cms_machine.specs.Steps as steps
-use Rattle.cms_machine.specs.Steps.{Outcome, Good, ReadFault, OldFault, EitherFault, slot_after}
-use Rattle.cms_machine.specs.Beats.{FitsStep}
+use Rattle.cms_model.specs.Slots.{Side, Before, After, Settled, set_of, named}
+use Rattle.cms_model.specs.Steps as steps
+use Rattle.cms_model.specs.Steps.{Outcome, Good, ReadFault, OldFault, EitherFault, slot_after}
+use Rattle.cms_model.specs.Beats.{FitsStep}
 use Rattle.cms_map.specs.Bits.{free_blocks}
 use Rattle.cms_held.specs.HeldVolumes.{HeldFile, HeldTree, HeldVolume}
 use Rattle.cms_held.specs.Renewals.{made_at, made_without, moved_file, needed, renamed}

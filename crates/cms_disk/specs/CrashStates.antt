@@ -8,7 +8,7 @@ use Rattle.cms_model.specs.Minidisks.{State}
 use Rattle.cms_model.specs.Settled.{MayLeave}
 use Rattle.cms_model.specs.Trees.{image_of}
 use Rattle.cms_model.specs.Volumes.{Disk, disk_of, state_of}
-use Rattle.cms_machine.specs.Slots.{IsAmong}
+use Rattle.cms_model.specs.Slots.{IsAmong}
 
 -- a crash at this journal may leave contents of the unit that have this state, where this disk reads them
 pub record LeavesOnIn (disk : Disk) (j : Journal) (u : ℕ) (x : State) : Type 0 where

@@ -13,7 +13,7 @@ use Rattle.cms_model.specs.Changes as model
 use Rattle.cms_model.specs.declared.file.FileData.{FileData}
 use Rattle.cms_model.specs.Volumes.{Disk}
 use Rattle.cms_map.specs.Bits.{free_blocks}
-use Rattle.cms_machine.specs.Beats.{AreStamped, written_count}
+use Rattle.cms_model.specs.Beats.{AreStamped, written_count}
 use Rattle.cms_held.specs.Drafts.{Front, no_front}
 use Rattle.cms_held.specs.Growths.{length_with}
 use Rattle.cms_held.specs.HeldVolumes.{HeldFile}

@@ -10,9 +10,9 @@ use Rattle.cms_model.specs.LawsUpdates.{now}
 use Rattle.cms_model.specs.Minidisks.{Minidisk, State, Not}
 use Rattle.cms_model.specs.Settled.{IsFirm}
 use Rattle.cms_model.specs.Volumes.{Disk, state_of}
-use Rattle.cms_machine.specs.Slots.{Side, Settled, set_of, state_in}
-use Rattle.cms_machine.specs.Steps.{Step, Wipe, Make, Outcome, Good, OldFault, EitherFault, slot_after, unit_of}
-use Rattle.cms_machine.specs.Beats.{FitsStep}
+use Rattle.cms_model.specs.Slots.{Side, Settled, set_of, state_in}
+use Rattle.cms_model.specs.Steps.{Step, Wipe, Make, Outcome, Good, OldFault, EitherFault, slot_after, unit_of}
+use Rattle.cms_model.specs.Beats.{FitsStep}
 use Rattle.cms_held.specs.EmptyVolumes.{empty_label}
 use Rattle.cms_disk.specs.Changes.{HasState, IsWholeAt}
 use Rattle.cms_disk.specs.CrashStates.{CoversOn, LooksAs}

@@ -10,7 +10,7 @@ use Rattle.cms_model.specs.Volumes.{Disk, Opened, open_of, reason}
 use Rattle.cms_model.specs.Settled.{IsSettled, IsFirm}
 use Rattle.cms_model.specs.LawsUpdates.{after, now}
 use Rattle.cms_model.specs.declared.fault.OpenFault.{OpenFault}
-use Rattle.cms_machine.specs.Beats.{Covers}
+use Rattle.cms_model.specs.Beats.{Covers}
 use Rattle.cms_held.specs.LawsHeld.{IsFound, IsMinidiskOf}
 use Rattle.cms_disk.specs.CrashStates.{CoversOn, LooksAs}
 use Rattle.cms_disk.specs.Disks.{Accessed, StandsIn, IsQuiet, place_of}

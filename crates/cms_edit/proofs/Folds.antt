@@ -10,7 +10,7 @@ use Rattle.cms_text.specs.Texts.{Text}
 use Rattle.cms_model.specs.Minidisks.{same_name}
 use Rattle.cms_model.proofs.ListChanges.{name_from}
 use Rattle.cms_line.specs.Tokens.{tokens_of}
-use Rattle.cms_machine.specs.Objects.{Content, Reply, Start, Sub, Went, Got, Refused, Want, Say, Ask, Get, Put, Ended}
+use Rattle.cms_model.specs.Objects.{Content, Reply, Start, Sub, Went, Got, Refused, Want, Say, Ask, Get, Put, Ended}
 use Rattle.cms_ext.specs.Exact.{Move, exactly, same_lines, same_want}
 use Rattle.cms_edit.specs.declared.editor.Editor.{Editor}
 use Rattle.cms_edit.specs.declared.editor.Phase.{Phase}

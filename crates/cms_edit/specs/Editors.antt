@@ -10,7 +10,7 @@ use Rattle.cms_line.specs.Tokens.{tokens_of}
 use Rattle.cms_line.specs.declared.token.Token.{Token}
 use Rattle.cms_operands.specs.Operands.{ended, given_or, letter, name, needed}
 use Rattle.cms_operands.specs.declared.refusal.Refusal.{Refusal}
-use Rattle.cms_machine.specs.Objects.{Content, Reply, Start, Sub, Went, Got, Records, Refused, Want, Say, Ask, Get, Put, Ended}
+use Rattle.cms_model.specs.Objects.{Content, Reply, Start, Sub, Went, Got, Records, Refused, Want, Say, Ask, Get, Put, Ended}
 use Rattle.cms_ext.specs.Exact.{Move}
 use Rattle.cms_ext.specs.Replies.{MayBe, is_code, want_of}
 use Rattle.cms_ext.specs.declared.extension.ExtWant.{ExtWant}

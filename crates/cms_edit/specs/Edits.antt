@@ -4,7 +4,7 @@ use Rattle.std.specs.List.{starts_with}
 use Rattle.std.specs.Option.{option_and_then, option_map, is_some}
 use Rattle.cms_text.specs.Limits.{longest_text}
 use Rattle.cms_text.specs.Texts.{Text}
-use Rattle.cms_machine.specs.Objects.{Reply, Start, Sub, Went, Got, Records, Refused}
+use Rattle.cms_model.specs.Objects.{Reply, Start, Sub, Went, Got, Records, Refused}
 use Rattle.cms_edit.specs.declared.edit.Outcome.{Outcome}
 use Rattle.cms_edit.specs.declared.edit.Outcome.TheVariants as outcome
 use Rattle.cms_edit.specs.Buffers.{Buffer, at, current_line, inserted, lines_from, most_lines, moved_down, moved_up, removed, replaced}

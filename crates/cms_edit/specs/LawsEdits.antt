@@ -3,7 +3,7 @@
 use Rattle.std.specs.Prelude.{◌≡◌, ◌⊎◌, true, List, [], ◌∷◌, ◌++◌, length, Some, ℤ, ⊤}
 use Rattle.cms_text.specs.Texts.{Text}
 use Rattle.cms_line.specs.Tokens.{tokens_of}
-use Rattle.cms_machine.specs.Objects.{Content, Reply, Start, Sub, Went, Got, Refused, Test, Want, Say, Ask, Get, Put, Ended}
+use Rattle.cms_model.specs.Objects.{Content, Reply, Start, Sub, Went, Got, Refused, Test, Want, Say, Ask, Get, Put, Ended}
 use Rattle.cms_ext.specs.Exact.{exactly}
 use Rattle.cms_edit.specs.declared.editor.Editor.{Editor}
 use Rattle.cms_edit.specs.declared.editor.Phase.TheVariants.{Idle}

@@ -11,10 +11,10 @@ use Rattle.cms_text.specs.Texts.{ebcdic, is_keyword}
 use Rattle.cms_model.specs.Changes.{file_named}
 use Rattle.cms_model.specs.Lists.{same}
 use Rattle.cms_model.specs.Minidisks.{File, same_name}
-use Rattle.cms_machine.specs.Acts.{Act, typed_line}
-use Rattle.cms_machine.specs.Feeds.{Close, Fed, Over, WaitsForScript, WaitsForMoment, WaitsForObject, feed}
-use Rattle.cms_machine.specs.Steps.{Outcome, ReadFault}
-use Rattle.cms_machine.specs.Traces.{bytes_of}
+use Rattle.cms_model.specs.Acts.{Act, typed_line}
+use Rattle.cms_model.specs.Feeds.{Close, Fed, Over, WaitsForScript, WaitsForMoment, WaitsForObject, feed}
+use Rattle.cms_model.specs.Steps.{Outcome, ReadFault}
+use Rattle.cms_model.specs.Traces.{bytes_of}
 use Rattle.cms_line.specs.Messages.{message_text}
 use Rattle.cms_line.specs.Tokens.{tokens_from, tokens_of}
 use Rattle.cms_operands.specs.Operands.{given, name, needed}

@@ -15,9 +15,9 @@ use Rattle.cms_model.specs.Minidisks.{File, Minidisk}
 use Rattle.cms_model.specs.Records.{IsValid, StandsFor}
 use Rattle.cms_model.specs.Trees.{Image}
 use Rattle.cms_model.specs.declared.file.FileData.{FileData}
-use Rattle.cms_machine.specs.Acts.{Act, Done, saying, typed_line}
-use Rattle.cms_machine.specs.Slots.{Slot}
-use Rattle.cms_machine.specs.Steps.{Good, Outcome, ReadFault}
+use Rattle.cms_model.specs.Acts.{Act, Done, saying, typed_line}
+use Rattle.cms_model.specs.Slots.{Slot}
+use Rattle.cms_model.specs.Steps.{Good, Outcome, ReadFault}
 use Rattle.cms_line.specs.Messages.{message_text}
 use Rattle.cms_line.specs.declared.message.Message.{Message}
 use Rattle.cms_line.specs.declared.message.Message.TheVariants.{M002, M086, M105, M120}

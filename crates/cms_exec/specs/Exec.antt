@@ -4,7 +4,7 @@ use Rattle.std.specs.Option.{option_map_or}
 use Rattle.cms_fields.specs.Steps.{◌>>=◌}
 use Rattle.cms_text.specs.Numbers.{decimal_of}
 use Rattle.cms_text.specs.Texts.{Text, coded}
-use Rattle.cms_machine.specs.Acts.{Act, Done, bind}
+use Rattle.cms_model.specs.Acts.{Act, Done, bind}
 use Rattle.cms_line.specs.declared.message.Message.TheVariants.{M002, M086, M120}
 use Rattle.cms_line.specs.declared.token.Token.{Token}
 use Rattle.cms_operands.specs.Operands.{name, needed}

@@ -2,7 +2,7 @@
 ghost use Rattle.std.specs.Prelude.{◌≡◌, ◌+◌, ◌≤◌, IfOk, codes, pos};
 ghost use Rattle.cms_line.specs.Messages.{message_text};
 ghost use Rattle.cms_line.specs.declared.message.Message.TheVariants.{M002, M086};
-ghost use Rattle.cms_machine.specs.Acts.{saying, typed_line};
+ghost use Rattle.cms_model.specs.Acts.{saying, typed_line};
 ghost use Rattle.cms_search.specs.Calls.{Does, said};
 ghost use Rattle.cms_search.specs.declared.state.Course.TheVariants.{Went};
 ghost use Rattle.cms_text.specs.Numbers.{decimal_of};

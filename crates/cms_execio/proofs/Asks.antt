@@ -1,7 +1,7 @@
 -- Lines that are asked for one after another.
 use Rattle.std.proofs.Common.{◌≡◌, ◌∙◌, ◌<◌, ◌+◌, ◌-◌, ℕ, suc, List, [], ◌∷◌, ◌++◌, Ok, Err, refl, ap, arith}
-use Rattle.cms_machine.specs.Acts.{Act, Done, bind}
-use Rattle.cms_machine.specs.Slots.{Slot}
+use Rattle.cms_model.specs.Acts.{Act, Done, bind}
+use Rattle.cms_model.specs.Slots.{Slot}
 use Rattle.cms_search.specs.Calls.{Acts, Comes, Spot, machine_of}
 use Rattle.cms_search.specs.Machine.{Machine}
 use Rattle.cms_search.specs.Talks.{ask_tree, asked_of}

@@ -4,8 +4,8 @@ use Rattle.std.specs.Prelude.{◌==◌, IfOk}
 use Rattle.std.specs.Option.{ForSome, option_and_then}
 use Rattle.std.proofs.lemmas.Option.{same_Some}
 use Rattle.cms_names.specs.declared.name.Name.{Name}
-use Rattle.cms_machine.specs.Acts.{Act, saying, typed_line}
-use Rattle.cms_machine.specs.Slots.{Slot}
+use Rattle.cms_model.specs.Acts.{Act, saying, typed_line}
+use Rattle.cms_model.specs.Slots.{Slot}
 use Rattle.cms_edf.specs.FilesTold.{infos_in}
 use Rattle.cms_disk.specs.Cursors.{Cursor}
 use Rattle.cms_disk.specs.Disks.{place_of}

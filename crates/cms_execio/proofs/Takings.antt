@@ -13,11 +13,11 @@ use Rattle.cms_model.specs.Trees.{image_of}
 use Rattle.cms_model.specs.Changes.{Drop, file_named}
 use Rattle.cms_model.specs.LawsUpdates.{now}
 use Rattle.cms_model.specs.Minidisks.{File, Minidisk, Volume}
-use Rattle.cms_machine.specs.Acts.{Act, Done, saying, typed_line}
-use Rattle.cms_machine.specs.Runs.{Ran}
-use Rattle.cms_machine.specs.Slots.{Slot, Settled}
-use Rattle.cms_machine.specs.Steps.{Outcome}
-use Rattle.cms_machine.proofs.Join.{ran_none}
+use Rattle.cms_model.specs.Acts.{Act, Done, saying, typed_line}
+use Rattle.cms_model.specs.Runs.{Ran}
+use Rattle.cms_model.specs.Slots.{Slot, Settled}
+use Rattle.cms_model.specs.Steps.{Outcome}
+use Rattle.cms_model.proofs.Join.{ran_none}
 use Rattle.cms_disk.specs.Cursors.{HasLeft, Cursor, SameFile, text_of}
 use Rattle.cms_edf.specs.OpeningSteps.{OfImage}
 use Rattle.cms_disk.specs.declared.fault.DiskFault.{DiskFault}

@@ -8,8 +8,8 @@ use Rattle.cms_fields.specs.Moments.{stamp_of}
 use Rattle.cms_fields.specs.declared.time.Stamp.{Stamp}
 use Rattle.cms_model.specs.Changes.{Add, Change, Put}
 use Rattle.cms_model.specs.declared.file.FileData.{FileData}
-use Rattle.cms_machine.specs.Acts.{Act, Done, bind}
-use Rattle.cms_machine.specs.Slots.{Slot}
+use Rattle.cms_model.specs.Acts.{Act, Done, bind}
+use Rattle.cms_model.specs.Slots.{Slot}
 use Rattle.cms_edf.specs.declared.held.FileInfo.{FileInfo}
 use Rattle.cms_disk.specs.Drafts.{file_with, shape_of}
 use Rattle.cms_files.specs.Files.{UnitFile, file_on}

@@ -1,7 +1,7 @@
 -- Lines that are asked for, as a call does it.
 use Rattle.std.specs.Prelude.{◌≡◌, ◌≤◌, ℕ, List, [], drop}
-use Rattle.cms_machine.specs.Acts.{Act}
-use Rattle.cms_machine.specs.Slots.{Slot}
+use Rattle.cms_model.specs.Acts.{Act}
+use Rattle.cms_model.specs.Slots.{Slot}
 use Rattle.cms_search.specs.Calls.{Meaning, machine_of}
 use Rattle.cms_search.specs.Machine.{Machine}
 use Rattle.cms_search.specs.declared.state.State.{State}

@@ -6,7 +6,7 @@ use Rattle.cms_fields.specs.Moments.{stamp_of}
 use Rattle.cms_model.specs.Changes.{Change, Put, Add}
 use Rattle.cms_model.specs.Minidisks.{File}
 use Rattle.cms_model.specs.Records.{longest}
-use Rattle.cms_machine.specs.Acts.{Act, Done, bind}
+use Rattle.cms_model.specs.Acts.{Act, Done, bind}
 use Rattle.cms_line.specs.declared.token.Token.{Token}
 use Rattle.cms_search.specs.Asks as asking
 use Rattle.cms_search.specs.Asks.{Asked, ask}

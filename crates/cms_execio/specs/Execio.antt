@@ -1,6 +1,6 @@
 -- EXECIO: records of a file are stacked, or lines are written into one.
 use Rattle.std.specs.Prelude.{ℕ, List}
-use Rattle.cms_machine.specs.Acts.{Act}
+use Rattle.cms_model.specs.Acts.{Act}
 use Rattle.cms_line.specs.declared.token.Token.{Token}
 use Rattle.cms_search.specs.Machine.{Machine, Course}
 use Rattle.cms_search.specs.Refusals.{on_line}

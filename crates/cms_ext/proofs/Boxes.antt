@@ -1,7 +1,7 @@
 -- What is said of an object where it is lent is said of its box.
 use Rattle.std.proofs.Common.{◌≡◌, Result, subst}
 use Rattle.std.specs.declared.alloc.AllocError.{AllocError}
-use Rattle.cms_machine.specs.Objects.{Content, Test}
+use Rattle.cms_model.specs.Objects.{Content, Test}
 use Rattle.cms_ext.specs.Replies.{Answers}
 use Rattle.cms_ext.specs.declared.extension.ExtReply.{ExtReply}
 use Rattle.cms_ext.specs.declared.extension.ExtWant.{ExtWant}

@@ -7,8 +7,8 @@ use Rattle.std.proofs.lemmas.Bool.{eq-eqb}
 use Rattle.std.proofs.lemmas.Cmp.{int_eq_equiv}
 use Rattle.std.proofs.lemmas.Slice.Eq.{bytes_eq-Decides}
 use Rattle.cms_model.proofs.ListChanges.{name_self}
-use Rattle.cms_machine.specs.Objects as machine
-use Rattle.cms_machine.specs.Objects.{Content, Reply, Want, Say, Ask, Get, Put, Ended}
+use Rattle.cms_model.specs.Objects as machine
+use Rattle.cms_model.specs.Objects.{Content, Reply, Want, Say, Ask, Get, Put, Ended}
 use Rattle.cms_ext.specs.Exact.{Move, exactly, same_lines, same_want}
 use Rattle.cms_ext.specs.Replies.{Answers, want_of}
 use Rattle.cms_ext.specs.Tally.{count_in, counted, held, most, tally, tally_line}

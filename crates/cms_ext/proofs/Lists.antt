@@ -12,8 +12,8 @@ use Rattle.std.proofs.lemmas.Map.Keys.{IsDistinct-cons, IsDistinct-head, IsDisti
 use Rattle.std.proofs.lemmas.List.Edits.{length-remove}
 use Rattle.std.proofs.lemmas.Option.{get_or_from_slice_get, slice_get-map, slice_get_read}
 use Rattle.std.proofs.lemmas.Slice.Eq.{bytes_eq-Decides}
-use Rattle.cms_machine.specs.LawsObjects.{AreDistinct, IsGone}
-use Rattle.cms_machine.specs.Objects.{Object}
+use Rattle.cms_model.specs.LawsObjects.{AreDistinct, IsGone}
+use Rattle.cms_model.specs.Objects.{Object}
 use Rattle.cms_search.proofs.Released.{position_map}
 use Rattle.cms_ext.specs.Objects.{AnswersAt, HasPlace, Means, object_in, objects_of, place_of, words_of}
 use Rattle.cms_ext.specs.Replies.{Answers}

@@ -1,9 +1,9 @@
 -- Lines that an extension says, and the line that it asks for.
 use Rattle.std.proofs.Common.{◌≡◌, ℕ, List, Ok, Err, subst}
-use Rattle.cms_machine.specs.Acts.{Act, Done, bind}
-use Rattle.cms_machine.specs.Objects as machine
-use Rattle.cms_machine.specs.Objects.{Object}
-use Rattle.cms_machine.specs.Slots.{Slot}
+use Rattle.cms_model.specs.Acts.{Act, Done, bind}
+use Rattle.cms_model.specs.Objects as machine
+use Rattle.cms_model.specs.Objects.{Object}
+use Rattle.cms_model.specs.Slots.{Slot}
 use Rattle.cms_search.specs.Calls.{Acts, Does, Spot, said}
 use Rattle.cms_search.specs.Machine.{typing}
 use Rattle.cms_search.specs.Talks.{ask_tree, asked_of}

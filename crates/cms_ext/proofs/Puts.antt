@@ -10,9 +10,9 @@ use Rattle.cms_fields.specs.Moments.{stamp_of}
 use Rattle.cms_fields.specs.declared.time.Stamp.{Stamp}
 use Rattle.cms_model.specs.Changes.{Change, Put}
 use Rattle.cms_model.specs.declared.file.FileData.{FileData}
-use Rattle.cms_machine.specs.Acts.{Act, bind}
-use Rattle.cms_machine.specs.Objects.{Object}
-use Rattle.cms_machine.specs.Slots.{Slot}
+use Rattle.cms_model.specs.Acts.{Act, bind}
+use Rattle.cms_model.specs.Objects.{Object}
+use Rattle.cms_model.specs.Slots.{Slot}
 use Rattle.cms_edf.specs.declared.held.FileInfo.{FileInfo}
 use Rattle.cms_disk.specs.Drafts as drafts
 use Rattle.cms_disk.specs.Drafts.{shape_of}

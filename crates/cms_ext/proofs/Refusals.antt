@@ -1,9 +1,9 @@
 -- A want that is refused: its message is typed, and the extension is told the code.
 use Rattle.std.proofs.Common.{◌≡◌, ℤ, List, Result, Ok, Err}
 use Rattle.std.specs.Prelude.{IfOk}
-use Rattle.cms_machine.specs.Acts.{Act, saying, typed_line}
-use Rattle.cms_machine.specs.Objects.{Object}
-use Rattle.cms_machine.specs.Slots.{Slot}
+use Rattle.cms_model.specs.Acts.{Act, saying, typed_line}
+use Rattle.cms_model.specs.Objects.{Object}
+use Rattle.cms_model.specs.Slots.{Slot}
 use Rattle.cms_line.specs.Messages.{message_text}
 use Rattle.cms_line.specs.declared.message.Message.{Message}
 use Rattle.cms_search.specs.Calls.{Acts, Does, Spot, course_of, refusal_tree, said}

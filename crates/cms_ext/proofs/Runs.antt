@@ -3,12 +3,12 @@ use Rattle.std.proofs.Common.{◌≡◌, ◌∙◌, ◌-◌, ◌≤◌, ℕ, ℤ
 use Rattle.std.specs.Prelude.{Option, Some, remove}
 use Rattle.std.specs.declared.alloc.AllocError.{AllocError}
 use Rattle.cms_fields.specs.Moments.{is_moment}
-use Rattle.cms_machine.specs.Acts.{Act, Drops, bind}
-use Rattle.cms_machine.specs.Objects.{Back, Object, Reply}
-use Rattle.cms_machine.specs.Slots.{Slot}
-use Rattle.cms_machine.specs.Points.{Point}
-use Rattle.cms_machine.specs.Runs.{Ran}
-use Rattle.cms_machine.proofs.Single.{broke_before, ran_ask, ran_drop}
+use Rattle.cms_model.specs.Acts.{Act, Drops, bind}
+use Rattle.cms_model.specs.Objects.{Back, Object, Reply}
+use Rattle.cms_model.specs.Slots.{Slot}
+use Rattle.cms_model.specs.Points.{Point}
+use Rattle.cms_model.specs.Runs.{Ran}
+use Rattle.cms_model.proofs.Single.{broke_before, ran_ask, ran_drop}
 use Rattle.cms_world.specs.Seen.{Seen}
 use Rattle.cms_search.specs.Calls.{Acts, Comes, SpotWith, at, spot_at}
 use Rattle.cms_search.specs.Machine.{Machine}

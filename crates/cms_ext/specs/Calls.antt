@@ -1,9 +1,9 @@
 -- What the calls' values mean.
 use Rattle.std.specs.Prelude.{ℕ, List, Option, Some, None, Result, Ok, Err}
 use Rattle.cms_names.specs.declared.name.Format.TheVariants.{V}
-use Rattle.cms_machine.specs.Acts.{Act}
-use Rattle.cms_machine.specs.Objects.{Object, Reply}
-use Rattle.cms_machine.specs.Slots.{Slot}
+use Rattle.cms_model.specs.Acts.{Act}
+use Rattle.cms_model.specs.Objects.{Object, Reply}
+use Rattle.cms_model.specs.Slots.{Slot}
 use Rattle.cms_edf.specs.declared.held.FileInfo.{FileInfo}
 use Rattle.cms_search.specs.Calls.{Acts, Meaning, Spot, machine_of}
 use Rattle.cms_search.specs.declared.state.Course.{Course}

@@ -3,7 +3,7 @@ use Rattle.std.specs.Prelude.{ℕ, Bool, true, false, ◌&&◌, ◌==◌, List, 
 use Rattle.std.specs.Str.{bytes_eq}
 use Rattle.std.specs.Ordering.{int_eq}
 use Rattle.cms_model.specs.Minidisks.{same_name}
-use Rattle.cms_machine.specs.Objects.{Content, Reply, Test, Want, Say, Ask, Get, Put, Ended}
+use Rattle.cms_model.specs.Objects.{Content, Reply, Test, Want, Say, Ask, Get, Put, Ended}
 
 -- two lists have the same lines, in the same order
 abbrev pub same_lines : List (List ℕ) → List (List ℕ) → Bool

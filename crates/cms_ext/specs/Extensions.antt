@@ -8,9 +8,9 @@ use Rattle.cms_fields.specs.Steps.{◌>>=◌}
 use Rattle.cms_model.specs.Changes.{Change, Put}
 use Rattle.cms_model.specs.Minidisks.{File}
 use Rattle.cms_model.specs.Records.{length_of}
-use Rattle.cms_machine.specs.Acts.{Act, Done, Turn, Asks, bind}
-use Rattle.cms_machine.specs.Objects.{Back, Object, Reply, Want, answered}
-use Rattle.cms_machine.specs.Objects as object
+use Rattle.cms_model.specs.Acts.{Act, Done, Turn, Asks, bind}
+use Rattle.cms_model.specs.Objects.{Back, Object, Reply, Want, answered}
+use Rattle.cms_model.specs.Objects as object
 use Rattle.cms_line.specs.declared.message.Message.{Message}
 use Rattle.cms_line.specs.declared.message.Message.TheVariants.{M002, M037, M069}
 use Rattle.cms_operands.specs.declared.mode.ReadMode.TheVariants.{Letter}

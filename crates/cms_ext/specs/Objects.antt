@@ -4,7 +4,7 @@ use Rattle.std.specs.Global.{Global}
 use Rattle.std.specs.Str.{bytes_eq}
 use Rattle.std.specs.declared.alloc.AllocError.{AllocError}
 use Rattle.std.specs.declared.dyn_box.DynBox.{DynBox}
-use Rattle.cms_machine.specs.Objects.{Content, Object}
+use Rattle.cms_model.specs.Objects.{Content, Object}
 use Rattle.cms_ext.specs.Replies.{Answers}
 use Rattle.cms_ext.specs.declared.extension.ExtReply.{ExtReply}
 use Rattle.cms_ext.specs.declared.extension.ExtWant.{ExtWant}

@@ -1,8 +1,8 @@
 -- What an extension is told, what it wants, and what a call of it says.
 use Rattle.std.specs.Prelude.{◌≡◌, ℤ, pos, negsuc, ◌<◌, ◌≤◌, nat_le, nat_lt, Bool, true, length, Result, IfOk, OnErr, ⊤}
 use Rattle.std.specs.declared.alloc.AllocError.{AllocError}
-use Rattle.cms_machine.specs.Objects.{Content, Reply, Test, Want}
-use Rattle.cms_machine.specs.Objects as machine
+use Rattle.cms_model.specs.Objects.{Content, Reply, Test, Want}
+use Rattle.cms_model.specs.Objects as machine
 use Rattle.cms_ext.specs.declared.extension.ExtReply.{ExtReply}
 use Rattle.cms_ext.specs.declared.extension.ExtReply.TheVariants as told
 use Rattle.cms_ext.specs.declared.extension.ExtWant.{ExtWant}

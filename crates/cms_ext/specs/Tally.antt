@@ -2,7 +2,7 @@
 use Rattle.std.specs.Prelude.{ℕ, pos, ◌+◌, min, List, [], ◌∷◌, ◌++◌, codes}
 use Rattle.cms_text.specs.Numbers.{decimal_of, value_of}
 use Rattle.cms_text.specs.Texts.{coded}
-use Rattle.cms_machine.specs.Objects.{Content, Reply, Start, Sub, Went, Got, Records, Refused, Say, Ended}
+use Rattle.cms_model.specs.Objects.{Content, Reply, Start, Sub, Went, Got, Records, Refused, Say, Ended}
 use Rattle.cms_ext.specs.Exact.{Move}
 
 -- a count goes no further

@@ -1,5 +1,5 @@
 // What a session and an extension say to each other.
-ghost use Rattle.cms_machine.specs.Objects.{Content, Test};
+ghost use Rattle.cms_model.specs.Objects.{Content, Test};
 ghost use Rattle.cms_ext.specs.Replies.{Answers};
 
 use crate::records::Records;

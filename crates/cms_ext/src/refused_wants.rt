@@ -2,7 +2,7 @@
 ghost use Rattle.std.specs.Prelude.{◌≡◌, IfOk, pos};
 ghost use Rattle.cms_line.specs.Messages.{message_text};
 ghost use Rattle.cms_line.specs.declared.message.Message.TheVariants.{M002};
-ghost use Rattle.cms_machine.specs.Acts.{saying, typed_line};
+ghost use Rattle.cms_model.specs.Acts.{saying, typed_line};
 ghost use Rattle.cms_search.specs.Calls.{Does, said, spot};
 ghost use Rattle.cms_search.specs.Texts.{letter_text};
 ghost use Rattle.cms_search.specs.declared.state.Course.TheVariants.{Went};

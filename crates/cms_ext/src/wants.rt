@@ -1,8 +1,8 @@
 // What an extension wants is done.
 ghost use Rattle.std.specs.Prelude.{◌≡◌, ◌≤◌, true};
 ghost use Rattle.cms_fields.specs.Moments.{is_moment};
-ghost use Rattle.cms_machine.specs.Acts.{Done};
-ghost use Rattle.cms_machine.specs.Objects.{Went};
+ghost use Rattle.cms_model.specs.Acts.{Done};
+ghost use Rattle.cms_model.specs.Objects.{Went};
 ghost use Rattle.cms_search.specs.Calls.{IsUsable, spot};
 ghost use Rattle.cms_search.specs.Machine.{typing};
 ghost use Rattle.cms_ext.specs.Calls.{Meets};

@@ -12,9 +12,9 @@ use Rattle.cms_model.specs.SharedTrees.{any_within, fresh_count, fresh_on, fresh
 use Rattle.cms_model.specs.Lists.{same, holds}
 use Rattle.cms_model.specs.Minidisks.{File, same_name}
 use Rattle.cms_model.specs.Sizes.{directory_more, file_size, free_count, map_size, stored_size, tree_size, used_count, levels, levels_from, pointer_count, pointers_to}
-use Rattle.cms_machine.specs.Acts.{typed_line}
-use Rattle.cms_machine.specs.Steps.{Outcome, Good, ReadFault, OldFault, EitherFault}
-use Rattle.cms_machine.specs.Slots.{After}
+use Rattle.cms_model.specs.Acts.{typed_line}
+use Rattle.cms_model.specs.Steps.{Outcome, Good, ReadFault, OldFault, EitherFault}
+use Rattle.cms_model.specs.Slots.{After}
 use Rattle.cms_line.specs.Messages.{message_text}
 use Rattle.cms_line.specs.Options.{options_from, options_of}
 use Rattle.cms_line.specs.Tokens.{tokens_from, tokens_of}

@@ -7,11 +7,11 @@ use Rattle.std.proofs.lemmas.Bool.{cases_Bool, eq-eqb, le-ltb, lt-ltb, ltb-true,
 use Rattle.std.proofs.lemmas.List.{length-append}
 use Rattle.cms_journal.specs.Causes.{Rose}
 use Rattle.cms_model.specs.Minidisks.{File}
-use Rattle.cms_machine.specs.Acts.{Act, Done, bind, saying, typed_line}
-use Rattle.cms_machine.specs.Runs.{Ran, Broke}
-use Rattle.cms_machine.specs.Slots.{Slot}
-use Rattle.cms_machine.specs.Steps.{Outcome}
-use Rattle.cms_machine.proofs.Join.{ran_bind, broke_bind}
+use Rattle.cms_model.specs.Acts.{Act, Done, bind, saying, typed_line}
+use Rattle.cms_model.specs.Runs.{Ran, Broke}
+use Rattle.cms_model.specs.Slots.{Slot}
+use Rattle.cms_model.specs.Steps.{Outcome}
+use Rattle.cms_model.proofs.Join.{ran_bind, broke_bind}
 use Rattle.cms_disk.specs.Cursors.{Cursor, SameFile, text_of}
 use Rattle.cms_disk.specs.declared.fault.DiskFault.{DiskFault}
 use Rattle.cms_disk.specs.declared.fault.DiskFault.TheVariants as failed

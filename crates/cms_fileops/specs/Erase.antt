@@ -3,7 +3,7 @@ use Rattle.std.specs.Prelude.{ℕ, Bool, true, false, List, [], ◌∷◌, codes
 use Rattle.cms_names.specs.declared.name.Name.{Name}
 use Rattle.cms_fields.specs.Steps.{◌>>=◌, ◌>>◌}
 use Rattle.cms_model.specs.Changes.{Drop}
-use Rattle.cms_machine.specs.Acts.{Act, bind}
+use Rattle.cms_model.specs.Acts.{Act, bind}
 use Rattle.cms_line.specs.declared.token.Token.{Token}
 use Rattle.cms_operands.specs.Choices.{chosen_of, flag}
 use Rattle.cms_operands.specs.Operands.{ended, operands_of}

@@ -7,7 +7,7 @@ use Rattle.cms_names.specs.declared.name.Name.{Name}
 use Rattle.cms_fields.specs.Steps.{◌>>=◌, ◌>>◌}
 use Rattle.cms_model.specs.Changes as changes
 use Rattle.cms_model.specs.Minidisks.{same_name}
-use Rattle.cms_machine.specs.Acts.{Act, bind}
+use Rattle.cms_model.specs.Acts.{Act, bind}
 use Rattle.cms_line.specs.declared.token.Token.{Token}
 use Rattle.cms_operands.specs.Choices.{chosen_of, flag}
 use Rattle.cms_operands.specs.Operands.{ended, needed, operands_of, output_mode, writing_mode}

@@ -1,7 +1,7 @@
 -- STATE fn ft [fm]
 use Rattle.std.specs.Prelude.{pos, List, Result, Ok}
 use Rattle.cms_fields.specs.Steps.{◌>>=◌, ◌>>◌}
-use Rattle.cms_machine.specs.Acts.{Act, Done}
+use Rattle.cms_model.specs.Acts.{Act, Done}
 use Rattle.cms_line.specs.declared.token.Token.{Token}
 use Rattle.cms_operands.specs.Choices.{without_options}
 use Rattle.cms_operands.specs.Operands.{ended, operands_of}

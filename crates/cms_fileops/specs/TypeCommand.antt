@@ -3,7 +3,7 @@ use Rattle.std.specs.Prelude.{⊤, ℕ, ◌-◌, ◌/◌, ◌%◌, ◌==◌, nat
 use Rattle.std.specs.List.{flat_map}
 use Rattle.std.specs.Option.{option_map_or}
 use Rattle.cms_fields.specs.Steps.{◌>>=◌, ◌>>◌}
-use Rattle.cms_machine.specs.Acts.{Act, Done, saying, typed_line}
+use Rattle.cms_model.specs.Acts.{Act, Done, saying, typed_line}
 use Rattle.cms_line.specs.declared.token.Token.{Token}
 use Rattle.cms_operands.specs.Choices.{chosen_of, flag, form}
 use Rattle.cms_operands.specs.Operands.{ended, largest, operands_of}

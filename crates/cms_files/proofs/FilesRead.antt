@@ -1,7 +1,7 @@
 -- The file that a command reads, as it is looked for.
 use Rattle.std.proofs.Common.{◌≡◌, ◌∙◌, ℕ, List, Result, Ok, Err}
-use Rattle.cms_machine.specs.Acts.{Act}
-use Rattle.cms_machine.specs.Slots.{Slot}
+use Rattle.cms_model.specs.Acts.{Act}
+use Rattle.cms_model.specs.Slots.{Slot}
 use Rattle.cms_line.specs.declared.token.Token.{Token}
 use Rattle.cms_search.specs.Calls.{Acts, Meaning, Spot, course_of, machine_of}
 use Rattle.cms_search.specs.Machine.{Course, Machine}

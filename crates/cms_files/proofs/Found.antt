@@ -4,8 +4,8 @@ use Rattle.std.specs.Prelude.{◌⊎◌, IfOk, nat_le, pos}
 use Rattle.std.proofs.lemmas.Bool.{and_parts, leb-true}
 use Rattle.std.specs.List.{list_all}
 use Rattle.cms_names.specs.Names.{is_between, is_name_character, is_part, is_text_of}
-use Rattle.cms_machine.specs.Acts.{Act, saying, typed_line}
-use Rattle.cms_machine.specs.Slots.{Slot}
+use Rattle.cms_model.specs.Acts.{Act, saying, typed_line}
+use Rattle.cms_model.specs.Slots.{Slot}
 use Rattle.cms_line.specs.Messages.{message_text}
 use Rattle.cms_line.specs.declared.token.Token.{Token}
 use Rattle.cms_search.specs.Calls.{Acts, Does, Meaning, Spot, course_of, holds, machine_of, said, spot_at}

@@ -1,8 +1,8 @@
 -- An update, as the last thing of a command.
 use Rattle.std.proofs.Common.{◌≡◌, ℕ, List, Result, Ok, Err, pos, ap, subst}
 use Rattle.cms_model.specs.Changes.{Change}
-use Rattle.cms_machine.specs.Acts.{Act, bind}
-use Rattle.cms_machine.specs.Slots.{Slot}
+use Rattle.cms_model.specs.Acts.{Act, bind}
+use Rattle.cms_model.specs.Slots.{Slot}
 use Rattle.cms_files.specs.Updates.{last_update, updated_of, went}
 use Rattle.cms_files.specs.declared.update.Updated as declared_updated
 use Rattle.cms_files.specs.declared.update.Updated.TheVariants as came

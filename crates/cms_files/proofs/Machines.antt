@@ -4,10 +4,10 @@ use Rattle.cms_names.specs.declared.name.Format.TheVariants as format
 use Rattle.cms_fields.specs.declared.time.Stamp.{Stamp}
 use Rattle.cms_text.specs.Texts.{ebcdic}
 use Rattle.cms_model.specs.Minidisks.{File, Volume}
-use Rattle.cms_machine.specs.Acts.{Act}
-use Rattle.cms_machine.specs.Feeds.{Close, Over, WaitsForScript, WaitsForMoment, WaitsForObject, feed}
-use Rattle.cms_machine.specs.Slots.{Slot, Settled}
-use Rattle.cms_machine.specs.Steps.{Outcome}
+use Rattle.cms_model.specs.Acts.{Act}
+use Rattle.cms_model.specs.Feeds.{Close, Over, WaitsForScript, WaitsForMoment, WaitsForObject, feed}
+use Rattle.cms_model.specs.Slots.{Slot, Settled}
+use Rattle.cms_model.specs.Steps.{Outcome}
 use Rattle.cms_search.specs.Machine.{Letter, Machine, Course, Went, OutOfTurns}
 use Rattle.cms_search.specs.declared.state.Device.{Device}
 use Rattle.cms_search.proofs.Machines.{machine}

@@ -9,9 +9,9 @@ use Rattle.cms_names.specs.declared.name.Format.TheVariants.{F}
 use Rattle.cms_names.specs.declared.name.Name.{Name}
 use Rattle.cms_model.specs.Changes.{file_named}
 use Rattle.cms_model.specs.Minidisks.{File, Minidisk, Volume}
-use Rattle.cms_machine.specs.Acts.{Act, Does}
-use Rattle.cms_machine.specs.Slots.{Slot, Settled}
-use Rattle.cms_machine.specs.Steps.{Get, Outcome}
+use Rattle.cms_model.specs.Acts.{Act, Does}
+use Rattle.cms_model.specs.Slots.{Slot, Settled}
+use Rattle.cms_model.specs.Steps.{Get, Outcome}
 use Rattle.cms_edf.specs.FilesTold.{info_of, infos_in}
 use Rattle.cms_edf.specs.declared.held.FileInfo.{FileInfo}
 use Rattle.cms_held.specs.HeldVolumes.{HeldFile}

@@ -5,8 +5,8 @@ use Rattle.std.specs.Option.{option_map}
 use Rattle.std.proofs.lemmas.List.{drop_all}
 use Rattle.cms_fields.specs.Moments.{is_moment}
 use Rattle.cms_model.specs.Changes.{Change}
-use Rattle.cms_machine.specs.Acts.{Act, Done, bind, saying, typed_line}
-use Rattle.cms_machine.specs.Slots.{Slot}
+use Rattle.cms_model.specs.Acts.{Act, Done, bind, saying, typed_line}
+use Rattle.cms_model.specs.Slots.{Slot}
 use Rattle.cms_line.specs.Messages.{message_text}
 use Rattle.cms_line.specs.declared.message.Message.{Message}
 use Rattle.cms_disk.specs.declared.unit.UnitInfo.{UnitInfo}

@@ -8,12 +8,12 @@ use Rattle.cms_model.specs.LawsChanges.{IsPlace}
 use Rattle.cms_model.specs.Minidisks.{File, Minidisk}
 use Rattle.cms_model.specs.Trees.{Image}
 use Rattle.cms_model.proofs.ListChanges.{place_changed}
-use Rattle.cms_machine.specs.Acts as acts
-use Rattle.cms_machine.specs.Acts.{Act}
-use Rattle.cms_machine.specs.Runs.{Ran}
-use Rattle.cms_machine.specs.Slots.{Slot}
-use Rattle.cms_machine.specs.Steps.{Get, MayGet, Offers, Outcome, faults_in}
-use Rattle.cms_machine.proofs.Single.{ran_still}
+use Rattle.cms_model.specs.Acts as acts
+use Rattle.cms_model.specs.Acts.{Act}
+use Rattle.cms_model.specs.Runs.{Ran}
+use Rattle.cms_model.specs.Slots.{Slot}
+use Rattle.cms_model.specs.Steps.{Get, MayGet, Offers, Outcome, faults_in}
+use Rattle.cms_model.proofs.Single.{ran_still}
 use Rattle.cms_disk.specs.Disks.{Accessed, StandsIn, place_of}
 use Rattle.cms_disk.proofs.FilesFound.{stands_tells}
 use Rattle.cms_held.specs.LawsHeld.{IsFound}

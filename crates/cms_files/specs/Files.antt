@@ -4,7 +4,7 @@ use Rattle.cms_fields.specs.Steps.{◌>>=◌}
 use Rattle.cms_names.specs.declared.name.Name.{Name}
 use Rattle.cms_model.specs.Changes.{file_named}
 use Rattle.cms_model.specs.Minidisks.{File, Minidisk, same_name}
-use Rattle.cms_machine.specs.Acts.{Act, Out, typed_line}
+use Rattle.cms_model.specs.Acts.{Act, Out, typed_line}
 use Rattle.cms_line.specs.declared.message.Message.{Message}
 use Rattle.cms_line.specs.declared.message.Message.TheVariants.{M002, M024, M037, M069, M113}
 use Rattle.cms_line.specs.declared.token.Token.{Token}

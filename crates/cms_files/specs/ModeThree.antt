@@ -2,8 +2,8 @@
 use Rattle.std.specs.Prelude.{ℕ, Bool, false, not, ◌==◌, ◌&&◌, if◌then◌else◌, List, Result, Ok, Err}
 use Rattle.cms_names.specs.declared.name.Name.{Name}
 use Rattle.cms_model.specs.Changes.{Drop}
-use Rattle.cms_machine.specs.Acts.{Act, Done, bind}
-use Rattle.cms_machine.specs.Slots.{Slot}
+use Rattle.cms_model.specs.Acts.{Act, Done, bind}
+use Rattle.cms_model.specs.Slots.{Slot}
 use Rattle.cms_search.specs.DeviceSteps.{Stepped, Did, unless_failed}
 use Rattle.cms_search.specs.Machine.{Machine, Course, letter_at}
 use Rattle.cms_search.specs.Searches.{has}

@@ -1,7 +1,7 @@
 -- Lines that a command leaves on the program stack.
 use Rattle.std.specs.Prelude.{◌≡◌, ℕ, pos, ◌+◌, ◌<◌, nat_le, if◌then◌else◌, List, ◌++◌, length, reverse, take}
 use Rattle.cms_text.specs.Numbers.{decimal_of}
-use Rattle.cms_machine.specs.Acts.{Act, Done}
+use Rattle.cms_model.specs.Acts.{Act, Done}
 use Rattle.cms_line.specs.Stack.{most_lines}
 use Rattle.cms_line.specs.declared.message.Message.TheVariants.{M120}
 use Rattle.cms_search.specs.Machine.{Machine, Course, Went, refusal}

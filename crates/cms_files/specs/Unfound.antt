@@ -1,6 +1,6 @@
 -- A search that finds nothing, or isn't answered.
 use Rattle.std.specs.Prelude.{◌≡◌, ℕ, List, pos, Result, Err, IfOk}
-use Rattle.cms_machine.specs.Acts.{saying, typed_line}
+use Rattle.cms_model.specs.Acts.{saying, typed_line}
 use Rattle.cms_line.specs.Messages.{message_text}
 use Rattle.cms_line.specs.declared.token.Token.{Token}
 use Rattle.cms_world.specs.Seen.{Seen}

@@ -3,7 +3,7 @@ use Rattle.std.specs.Prelude.{ℕ, pos, Bool, List, [], ◌∷◌, Option, Some,
 use Rattle.cms_names.specs.declared.name.Name.{Name}
 use Rattle.cms_text.specs.Numbers.{decimal_of}
 use Rattle.cms_model.specs.Changes.{Change, Put, Add, Drop, Rename, Relabel, Century}
-use Rattle.cms_machine.specs.Acts.{Act, Done, bind}
+use Rattle.cms_model.specs.Acts.{Act, Done, bind}
 use Rattle.cms_line.specs.declared.message.Message.TheVariants.{M107, M120}
 use Rattle.cms_search.specs.ChangeTold.{limited}
 use Rattle.cms_search.specs.Machine.{Letter, Machine, Places, Course, Went, letter_at, refusal}
@@ -16,7 +16,7 @@ use Rattle.cms_search.specs.DeviceSteps.{Stepped, Did, Failed, Changing, IsChang
 use Rattle.cms_search.specs.Texts.{letter_text}
 use Rattle.cms_search.specs.declared.fault.SearchFault.{SearchFault}
 use Rattle.cms_line.specs.declared.token.Token.{Token}
-use Rattle.cms_machine.specs.Slots.{Slot}
+use Rattle.cms_model.specs.Slots.{Slot}
 use Rattle.cms_search.specs.Calls.{Meaning, course_of, machine_of}
 use Rattle.cms_search.specs.declared.place_event.PlaceEvent.TheVariants as event
 use Rattle.cms_search.specs.declared.state.Course as declared_course

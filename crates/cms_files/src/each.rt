@@ -5,7 +5,7 @@ ghost use Rattle.cms_search.specs.Calls.{Acts, IsUsable, course_of, machine_of, 
 ghost use Rattle.cms_search.specs.DeviceSteps.{Stepped};
 ghost use Rattle.cms_search.specs.Machine.{Machine};
 ghost use Rattle.cms_search.specs.Searches as searches;
-ghost use Rattle.cms_machine.specs.Acts.{Act};
+ghost use Rattle.cms_model.specs.Acts.{Act};
 ghost use Rattle.cms_files.specs.Updates.{updated_of, updating_each, updating_taken};
 
 use crate::identifier::NameChoice;

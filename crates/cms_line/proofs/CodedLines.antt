@@ -3,7 +3,7 @@ use Rattle.std.proofs.Common.{◌≡◌, ℕ, zero, suc, ◌+◌, ◌-◌, ◌<�
 use Rattle.std.specs.Option.{option_map, option_and_then, option_map_or}
 use Rattle.std.proofs.lemmas.Bool.Decides.{nat_tests, eqb_tells}
 use Rattle.std.proofs.lemmas.Grind.{common_steps}
-use Rattle.cms_machine.specs.Items.{coded_line, console_code, without_return, short_line, Text, Bad}
+use Rattle.cms_model.specs.Items.{coded_line, console_code, without_return, short_line, Text, Bad}
 
 -- ---- the carriage return at a line's end
 

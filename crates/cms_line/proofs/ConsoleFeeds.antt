@@ -6,9 +6,9 @@ use Rattle.std.specs.Option.{option_map}
 use Rattle.std.proofs.lemmas.Bool.Decides.{nat_tests, eqb_tells}
 use Rattle.std.proofs.lemmas.Grind.{common_steps}
 use Rattle.std.proofs.lemmas.List.{take-append-drop}
-use Rattle.cms_machine.specs.Items.{Goes, without_return}
-use Rattle.cms_machine.proofs.ItemsParts.{feed, NoFeed}
-use Rattle.cms_machine.proofs.Whole.{or_first as or_left}
+use Rattle.cms_model.specs.Items.{Goes, without_return}
+use Rattle.cms_model.proofs.ItemsParts.{feed, NoFeed}
+use Rattle.cms_model.proofs.Whole.{or_first as or_left}
 use Rattle.cms_line.specs.ConsoleSteps.{has_feed, goes_past, begins_in_line}
 
 -- ---- the place of the first line feed

@@ -5,8 +5,8 @@ use Rattle.std.proofs.lemmas.Grind.{common_steps}
 use Rattle.std.proofs.lemmas.List.{take-append-drop, drop-drop}
 use Rattle.std.proofs.lemmas.Bool.Decides.{nat_tests, eqb_tells}
 use Rattle.std.proofs.lemmas.Bool.{cases_lt}
-use Rattle.cms_machine.specs.Items.{Item, Long, Rest, items, part_items, items_left, items_sure, last_items, line_items, short_line, rests, without_return}
-use Rattle.cms_machine.proofs.ItemsParts.{feed, NoFeed, unread, parts, split_other, split_at_feed, split_front, content, behind, items_within, items_beyond, content_front, rest_first, items_line, items_open, short_items, return_one}
+use Rattle.cms_model.specs.Items.{Item, Long, Rest, items, part_items, items_left, items_sure, last_items, line_items, short_line, rests, without_return}
+use Rattle.cms_model.proofs.ItemsParts.{feed, NoFeed, unread, parts, split_other, split_at_feed, split_front, content, behind, items_within, items_beyond, content_front, rest_first, items_line, items_open, short_items, return_one}
 use Rattle.cms_line.specs.ConsoleState.{state}
 use Rattle.cms_line.specs.ConsoleSteps.{has_feed, goes_past, begins_in_line, Gives}
 use Rattle.cms_line.proofs.ConsoleFeeds.{FeedAt, no_feed, cut_at, past_none, past_begins, past_line, past_open, past_last, begins_more}

@@ -4,17 +4,17 @@ use Rattle.std.proofs.Math.Bool.{or-false, or_assoc}
 use Rattle.cms_journal.specs.declared.event.Event.{Event}
 use Rattle.cms_journal.specs.declared.event.Event.TheVariants.{Read}
 use Rattle.cms_journal.specs.Told.{Told, plus, script, is_over}
-use Rattle.cms_machine.specs.Items.{Unread, items, extended, Lazy, listed}
+use Rattle.cms_model.specs.Items.{Unread, items, extended, Lazy, listed}
 use Rattle.cms_line.specs.ConsoleState.{Console}
 use Rattle.cms_line.specs.Consoles.{item_of, Took, Stayed}
 use Rattle.cms_line.specs.ConsoleSteps.{Gives, GivesLine, Filled}
 use Rattle.cms_line.specs.declared.console.ConsoleLine.{ConsoleLine}
 use Rattle.cms_line.specs.declared.console.ConsoleLine.TheVariants.{End}
 use Rattle.cms_journal.proofs.Pieces.{plus_plus, script-append, is_over-append}
-use Rattle.cms_machine.proofs.Feed.{extended-append, extended-nil}
-use Rattle.cms_machine.proofs.Lists.{split_at}
+use Rattle.cms_model.proofs.Feed.{extended-append, extended-nil}
+use Rattle.cms_model.proofs.Lists.{split_at}
 use Rattle.cms_journal.proofs.Events.{all_join}
-use Rattle.cms_machine.specs.Beats.{IsRead}
+use Rattle.cms_model.specs.Beats.{IsRead}
 
 no_lazy : (u : Unread) (ended : Bool) → Lazy u ended []
 no_lazy u ended [] q c e = cc

@@ -2,8 +2,8 @@
 use Rattle.std.proofs.Common.{◌≡◌, ℕ, zero, suc, ◌+◌, ◌<◌, ◌≤◌, ◌==◌, Bool, true, false, List, [], ◌∷◌, length, take, drop, Some, None, refl, ap, sym, ◌∙◌, subst, arith}
 use Rattle.std.specs.List.{position}
 use Rattle.std.proofs.lemmas.Grind.{common_steps}
-use Rattle.cms_machine.specs.Items.{Item, Long, Rest, items, short_line, without_return}
-use Rattle.cms_machine.proofs.ItemsParts.{feed}
+use Rattle.cms_model.specs.Items.{Item, Long, Rest, items, short_line, without_return}
+use Rattle.cms_model.proofs.ItemsParts.{feed}
 use Rattle.cms_line.specs.Consoles.{item_of}
 use Rattle.cms_line.specs.ConsoleState.{Console, state}
 use Rattle.cms_line.specs.ConsoleSteps.{goes_past, room_of, Gives, GivesLine, LineEnds, LineIsLast}

@@ -6,10 +6,10 @@ use Rattle.cms_ebcdic.specs.CodePage.{host_of}
 use Rattle.cms_journal.specs.declared.event.Event.TheVariants.{Typed}
 use Rattle.cms_journal.specs.Told.{Told, plus, typed}
 use Rattle.cms_line.specs.Typed.{TypedTo, TypedPart}
-use Rattle.cms_machine.specs.Acts.{typed_line}
+use Rattle.cms_model.specs.Acts.{typed_line}
 use Rattle.cms_journal.proofs.Pieces.{plus_plus, typed-append}
 use Rattle.cms_journal.proofs.Events.{all_join}
-use Rattle.cms_machine.specs.Beats.{IsTyped}
+use Rattle.cms_model.specs.Beats.{IsTyped}
 
 pub typed_none : (old : Told) (bytes : List ℕ) → TypedTo old old bytes bytes
 typed_none old bytes = record { events = []; told = refl; only = tt; is = refl }

@@ -1,7 +1,7 @@
 -- What a console holds.
 use Rattle.std.specs.Prelude.{ℕ, Bool, true, false, List, [], Option, Some, None, Vec}
 use Rattle.std.specs.declared.alloc.Global.{Global}
-use Rattle.cms_machine.specs.Items.{Unread}
+use Rattle.cms_model.specs.Items.{Unread}
 
 -- what was read and not taken, and whether the script's end was found
 pub record Console : Type 0 where

@@ -4,7 +4,7 @@ use Rattle.std.specs.List.{list_any}
 use Rattle.cms_journal.specs.declared.event.Event.TheVariants.{Read}
 use Rattle.cms_journal.specs.Told.{Told, plus, is_over}
 use Rattle.cms_text.specs.Limits.{longest_text}
-use Rattle.cms_machine.specs.Items.{Item, items, extended, Goes}
+use Rattle.cms_model.specs.Items.{Item, items, extended, Goes}
 use Rattle.cms_line.specs.ConsoleState.{Console}
 use Rattle.cms_line.specs.Consoles.{item_of}
 use Rattle.cms_line.specs.declared.console.ConsoleLine.{ConsoleLine}

@@ -3,9 +3,9 @@ use Rattle.std.specs.Prelude.{◌≡◌, ℕ, ◌≤◌, List, Option, Some, Non
 use Rattle.cms_journal.specs.declared.event.Event.{Event}
 use Rattle.cms_journal.specs.Causes.{Rose}
 use Rattle.cms_journal.specs.Told.{Told, plus}
-use Rattle.cms_machine.specs.Beats.{OnlyRead}
-use Rattle.cms_machine.specs.Items as items
-use Rattle.cms_machine.specs.Items.{Item, Takes, Keeps}
+use Rattle.cms_model.specs.Beats.{OnlyRead}
+use Rattle.cms_model.specs.Items as items
+use Rattle.cms_model.specs.Items.{Item, Takes, Keeps}
 use Rattle.cms_line.specs.ConsoleState.{Console}
 use Rattle.cms_line.specs.declared.console.ConsoleLine.{ConsoleLine}
 use Rattle.cms_line.specs.declared.console.ConsoleLine.TheVariants.{Text, Bad, Long, Rest, End}

@@ -2,7 +2,7 @@
 use Rattle.std.specs.Prelude.{◌≡◌, ℕ, List, ◌++◌}
 use Rattle.cms_journal.specs.declared.event.Event.{Event}
 use Rattle.cms_journal.specs.Told.{Told, plus, typed}
-use Rattle.cms_machine.specs.Beats.{OnlyTyped}
+use Rattle.cms_model.specs.Beats.{OnlyTyped}
 
 -- of these bytes all but the rest were typed, and nothing else happened
 pub record TypedTo (old new : Told) (bytes rest : List ℕ) : Type 0 where

@@ -2,7 +2,7 @@
 ghost use Rattle.std.specs.Prelude.{◌≡◌, ◌==◌, ◌+◌, ◌<◌, ◌≤◌, ℕ, Some, true, false, length, drop, [], IfOk, IfErr, OnOk, OnErr, MatchBool};
 ghost use Rattle.std.specs.List.{position};
 ghost use Rattle.cms_journal.specs.Causes.{HasCause};
-ghost use Rattle.cms_machine.specs.Items.{short_line, without_return, console_code, items};
+ghost use Rattle.cms_model.specs.Items.{short_line, without_return, console_code, items};
 ghost use Rattle.cms_line.specs.ConsoleState.{fresh, state};
 ghost use Rattle.cms_line.specs.Consoles.{item_of, Took, Stayed, LineCause};
 ghost use Rattle.cms_line.specs.ConsoleSteps.{begins_in_line, goes_past, room_of, LineEnds, LineIsLast, IsFront, Gives, GivesLine, IsStep, Filled};

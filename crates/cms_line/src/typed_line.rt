@@ -3,7 +3,7 @@ ghost use Rattle.std.specs.Prelude.{◌≡◌, ◌<◌, ◌≤◌, [], map, take
 ghost use Rattle.cms_ebcdic.specs.CodePage.{host_of};
 ghost use Rattle.cms_journal.specs.Causes.{HasCause};
 ghost use Rattle.cms_line.specs.Typed.{TypedTo, TypedPart};
-ghost use Rattle.cms_machine.specs.Acts.{typed_line};
+ghost use Rattle.cms_model.specs.Acts.{typed_line};
 
 use cms_ebcdic::to_host;
 use cms_world::{Failed, World};

@@ -2,7 +2,7 @@
 use Rattle.std.proofs.Common.{◌≡◌, ◌∙◌, ℕ, Bool, true, false, List, [], ◌∷◌, ◌++◌, Result, Ok, Err, refl, sym, ap, subst}
 use Rattle.std.specs.Prelude.{IfOk, if◌then◌else◌, pos, Option, Some, None}
 use Rattle.std.specs.Option.{option_map_or}
-use Rattle.cms_machine.specs.Acts.{Act, Done, bind, saying, typed_line}
+use Rattle.cms_model.specs.Acts.{Act, Done, bind, saying, typed_line}
 use Rattle.cms_files.specs.StackedLines.{stacking}
 use Rattle.cms_files.specs.declared.stack.StackEnd.{StackEnd}
 use Rattle.cms_search.specs.Calls.{Acts, Does, Spot, course_of, itself, machine_of, said}

@@ -16,10 +16,10 @@ use Rattle.cms_model.specs.Lists.{same, holds}
 use Rattle.cms_model.specs.Minidisks.{File, Volume, same_name}
 use Rattle.cms_model.specs.Records.{longest}
 use Rattle.cms_model.specs.Sizes.{directory_more, file_size, free_count, map_size, stored_size, tree_size, used_count, levels, levels_from, pointer_count, pointers_to}
-use Rattle.cms_machine.specs.Acts.{typed_line}
-use Rattle.cms_machine.specs.Feeds.{feed}
-use Rattle.cms_machine.specs.Slots.{Before, Settled, Slot}
-use Rattle.cms_machine.specs.Steps.{EitherFault, ReadFault}
+use Rattle.cms_model.specs.Acts.{typed_line}
+use Rattle.cms_model.specs.Feeds.{feed}
+use Rattle.cms_model.specs.Slots.{Before, Settled, Slot}
+use Rattle.cms_model.specs.Steps.{EitherFault, ReadFault}
 use Rattle.cms_line.specs.Messages.{message_text}
 use Rattle.cms_line.specs.Options.{options_from, options_of}
 use Rattle.cms_line.specs.Tokens.{tokens_from, tokens_of}

@@ -9,7 +9,7 @@ use Rattle.cms_fields.specs.declared.time.Stamp.{Stamp}
 use Rattle.cms_text.specs.Texts.{coded}
 use Rattle.cms_model.specs.Changes.{Add, Change, Put}
 use Rattle.cms_model.specs.declared.file.FileData.{FileData}
-use Rattle.cms_machine.specs.Slots.{Slot}
+use Rattle.cms_model.specs.Slots.{Slot}
 use Rattle.cms_edf.specs.declared.held.FileInfo.{FileInfo}
 use Rattle.cms_disk.specs.Drafts.{file_with, shape_of}
 use Rattle.cms_files.specs.Files.{UnitFile, file_on}

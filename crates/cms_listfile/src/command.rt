@@ -1,7 +1,7 @@
 // How LISTFILE runs.
 ghost use Rattle.std.specs.Prelude.{◌≡◌, ◌⊎◌, [], true, Ok, Err, IfOk, IfErr, OnOk, pos};
 ghost use Rattle.cms_fields.specs.Moments.{is_moment};
-ghost use Rattle.cms_machine.specs.Acts.{Done};
+ghost use Rattle.cms_model.specs.Acts.{Done};
 ghost use Rattle.cms_files.specs.StackedLines.{StacksSome, stacking};
 ghost use Rattle.cms_search.specs.Calls.{Acts, Does, IsUsable, course_of, machine_of, said, spot};
 ghost use Rattle.cms_search.specs.Machine.{Machine, typing};

@@ -1,6 +1,6 @@
 // The lines of files that were found.
 ghost use Rattle.std.specs.Prelude.{◌≡◌, ◌++◌, IfOk, OnOk};
-ghost use Rattle.cms_machine.specs.Acts.{Done};
+ghost use Rattle.cms_model.specs.Acts.{Done};
 ghost use Rattle.cms_search.specs.Calls.{Does, said};
 ghost use Rattle.cms_search.specs.Machine.{typing};
 ghost use Rattle.cms_world.specs.Seen.{seen};

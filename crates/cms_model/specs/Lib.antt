@@ -25,3 +25,16 @@ pub mod Stands
 pub mod ByLevels
 pub mod SharedTiers
 pub mod SharedTimes
+pub mod Slots
+pub mod Steps
+pub mod Items
+pub mod Objects
+pub mod Acts
+pub mod Traces
+pub mod Feeds
+pub mod Points
+pub mod Beats
+pub mod Runs
+pub mod LawsRuns
+pub mod LawsSteps
+pub mod LawsObjects

@@ -19,12 +19,12 @@ use Rattle.cms_model.specs.LawsSizes.{IsWhole}
 use Rattle.cms_model.specs.LawsUpdates.{after, now}
 use Rattle.cms_model.specs.declared.fault.OpenFault.{OpenFault}
 use Rattle.cms_model.specs.declared.fault.OpenFault.TheVariants as failed
-use Rattle.cms_machine.specs.Slots.{After, Before, Doubt, IsAmong, Settled, Slot, set_of, state_in}
-use Rattle.cms_machine.specs.Steps.{Access, Outcome, Good, MayAccess, ReadFault, SyncFault, access_syncs, after_access, faults_in}
-use Rattle.cms_machine.specs.Acts.{Act, Done, Does}
-use Rattle.cms_machine.specs.Runs.{Ran}
-use Rattle.cms_machine.proofs.Single.{ran_still}
-use Rattle.cms_machine.proofs.Units.{get_other, get_same, other_slot, units_put}
+use Rattle.cms_model.specs.Slots.{After, Before, Doubt, IsAmong, Settled, Slot, set_of, state_in}
+use Rattle.cms_model.specs.Steps.{Access, Outcome, Good, MayAccess, ReadFault, SyncFault, access_syncs, after_access, faults_in}
+use Rattle.cms_model.specs.Acts.{Act, Done, Does}
+use Rattle.cms_model.specs.Runs.{Ran}
+use Rattle.cms_model.proofs.Single.{ran_still}
+use Rattle.cms_model.proofs.Units.{get_other, get_same, other_slot, units_put}
 use Rattle.cms_world.specs.Seen.{ChangesUnits, Seen}
 use Rattle.cms_disk.specs.Disks.{Accessed, IsLeft, IsMinidisk, IsOn, IsQuiet, disk_on, synced}
 use Rattle.cms_disk.specs.declared.fault.AccessFault.{AccessFault}

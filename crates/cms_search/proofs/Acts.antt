@@ -2,11 +2,11 @@
 use Rattle.std.proofs.Common.{◌≡◌, ◌≤◌, ℕ, ℤ, List, [], Result, Ok, Err, IfOk, refl, ap, sym, ◌∙◌, subst, arith}
 use Rattle.cms_journal.specs.Causes.{Rose}
 use Rattle.cms_journal.proofs.Pieces.{grown_same, grown_idle, grown_then}
-use Rattle.cms_machine.specs.Objects.{Object}
-use Rattle.cms_machine.specs.Slots.{Slot}
-use Rattle.cms_machine.specs.Acts.{Act, Done, bind, saying, typed_line}
-use Rattle.cms_machine.proofs.Single.{broke_before}
-use Rattle.cms_machine.proofs.Join.{ran_none, ran_then, ran_bind, broke_then, broke_bind, broke_here}
+use Rattle.cms_model.specs.Objects.{Object}
+use Rattle.cms_model.specs.Slots.{Slot}
+use Rattle.cms_model.specs.Acts.{Act, Done, bind, saying, typed_line}
+use Rattle.cms_model.proofs.Single.{broke_before}
+use Rattle.cms_model.proofs.Join.{ran_none, ran_then, ran_bind, broke_then, broke_bind, broke_here}
 use Rattle.cms_line.specs.ConsoleState.{Console}
 use Rattle.cms_line.specs.declared.message.Message.{Message}
 use Rattle.cms_line.specs.Messages.{message_text}

@@ -3,8 +3,8 @@ use Rattle.std.proofs.Common.{◌≡◌, ℕ, List, [], ◌∷◌, refl}
 use Rattle.std.specs.Prelude.{Some, None, true}
 use Rattle.cms_fields.specs.Moments.{first_moment, is_moment}
 use Rattle.cms_fields.specs.Stamps.{days_of_month}
-use Rattle.cms_machine.specs.Items.{Bad}
-use Rattle.cms_machine.specs.Acts.{Done, Out, Take, Turn, typed_line}
+use Rattle.cms_model.specs.Items.{Bad}
+use Rattle.cms_model.specs.Acts.{Done, Out, Take, Turn, typed_line}
 use Rattle.cms_line.specs.declared.message.Message.TheVariants.{M010}
 use Rattle.cms_line.specs.Messages.{message_text}
 use Rattle.cms_search.specs.Machine.{Machine}

@@ -1,9 +1,9 @@
 -- What a call without objects does is done beside any objects, which it leaves.
 use Rattle.std.proofs.Common.{List, Result, Ok, Err, refl}
-use Rattle.cms_machine.specs.Acts.{Act, Done}
-use Rattle.cms_machine.specs.Objects.{Object}
-use Rattle.cms_machine.specs.Slots.{Slot}
-use Rattle.cms_machine.proofs.ObjectsAsked.{broke_beside, ran_beside}
+use Rattle.cms_model.specs.Acts.{Act, Done}
+use Rattle.cms_model.specs.Objects.{Object}
+use Rattle.cms_model.specs.Slots.{Slot}
+use Rattle.cms_model.proofs.ObjectsAsked.{broke_beside, ran_beside}
 use Rattle.cms_search.specs.Calls.{Acts, Comes, Meaning, Spot, at, spot_beside}
 use Rattle.cms_search.specs.declared.state.End.{End}
 

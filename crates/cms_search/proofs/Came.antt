@@ -4,7 +4,7 @@ use Rattle.std.specs.Prelude.{⊤, IfSome}
 use Rattle.std.specs.Option.{IsSome}
 use Rattle.cms_fields.specs.Moments.{stamp_of}
 use Rattle.cms_fields.specs.declared.time.Stamp.{Stamp}
-use Rattle.cms_machine.specs.Slots.{Slot}
+use Rattle.cms_model.specs.Slots.{Slot}
 use Rattle.cms_model.specs.Changes.{Change}
 use Rattle.cms_world.specs.Seen.{Seen}
 use Rattle.cms_disk.specs.declared.fault.DiskFault.{DiskFault}

@@ -15,14 +15,14 @@ use Rattle.cms_model.specs.Volumes.{state_of}
 use Rattle.cms_model.specs.Changes.{Change}
 use Rattle.cms_model.specs.LawsSizes.{IsWhole}
 use Rattle.cms_model.specs.LawsUpdates.{after, now}
-use Rattle.cms_machine.specs.Slots.{Slot, Settled, state_in, set_of, unit_set, named}
-use Rattle.cms_machine.specs.Steps.{Put, Outcome, Good, OldFault, EitherFault, new_slot, put_slot, slot_after, units_after, faults_in}
-use Rattle.cms_machine.specs.Points.{Leaves, HasNowIn, HasNow}
-use Rattle.cms_machine.specs.Acts.{Act, Does}
-use Rattle.cms_machine.specs.Beats.{Covers}
-use Rattle.cms_machine.specs.Runs.{Ran}
-use Rattle.cms_machine.proofs.Units.{get_other, get_same, other_slot, units_put}
-use Rattle.cms_machine.proofs.Single.{ran_step}
+use Rattle.cms_model.specs.Slots.{Slot, Settled, state_in, set_of, unit_set, named}
+use Rattle.cms_model.specs.Steps.{Put, Outcome, Good, OldFault, EitherFault, new_slot, put_slot, slot_after, units_after, faults_in}
+use Rattle.cms_model.specs.Points.{Leaves, HasNowIn, HasNow}
+use Rattle.cms_model.specs.Acts.{Act, Does}
+use Rattle.cms_model.specs.Beats.{Covers}
+use Rattle.cms_model.specs.Runs.{Ran}
+use Rattle.cms_model.proofs.Units.{get_other, get_same, other_slot, units_put}
+use Rattle.cms_model.proofs.Single.{ran_step}
 use Rattle.cms_line.specs.ConsoleState.{Console}
 use Rattle.cms_disk.specs.Disks.{Accessed, IsLookedAt, IsMinidisk, IsOn, disk_on}
 use Rattle.cms_disk.specs.Changes.{Altered, Changes, Doubted, HasState, IsOnSame, IsWholeAt, Kept}

@@ -13,10 +13,10 @@ use Rattle.cms_model.specs.LawsUpdates.{now}
 use Rattle.cms_model.specs.Minidisks.{File}
 use Rattle.cms_model.specs.Trees.{Image, image_of}
 use Rattle.cms_model.proofs.Results.{ok_same}
-use Rattle.cms_machine.specs.Acts.{Act}
-use Rattle.cms_machine.specs.Runs.{Ran}
-use Rattle.cms_machine.specs.Slots.{Slot}
-use Rattle.cms_machine.proofs.Join.{ran_none}
+use Rattle.cms_model.specs.Acts.{Act}
+use Rattle.cms_model.specs.Runs.{Ran}
+use Rattle.cms_model.specs.Slots.{Slot}
+use Rattle.cms_model.proofs.Join.{ran_none}
 use Rattle.cms_edf.specs.OpeningSteps.{OfImage}
 use Rattle.cms_held.specs.HeldVolumes.{HeldFile, HeldVolume}
 use Rattle.cms_disk.specs.Cursors.{Cursor, HasLeft, HoldLeft, SameFile, fixed_of, unread}

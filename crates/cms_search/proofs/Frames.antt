@@ -14,9 +14,9 @@ use Rattle.cms_model.specs.Settled.{IsSettled, IsFirm}
 use Rattle.cms_model.specs.LawsSizes.{IsWhole}
 use Rattle.cms_model.specs.LawsUpdates.{AsBefore, after}
 use Rattle.cms_model.proofs.SettledUnits.{aside_is_as_before}
-use Rattle.cms_machine.specs.Points.{LeavesIn, Leaves, HasNowIn, HasNow}
-use Rattle.cms_machine.specs.Slots.{Slot}
-use Rattle.cms_machine.proofs.Aside.{leaves_aside, now_aside}
+use Rattle.cms_model.specs.Points.{LeavesIn, Leaves, HasNowIn, HasNow}
+use Rattle.cms_model.specs.Slots.{Slot}
+use Rattle.cms_model.proofs.Aside.{leaves_aside, now_aside}
 use Rattle.cms_disk.specs.Disks.{IsQuiet, disk_on}
 use Rattle.cms_disk.specs.declared.unit.UnitInfo.{UnitInfo}
 use Rattle.cms_disk.proofs.DisksTold.{minidisk_aside}

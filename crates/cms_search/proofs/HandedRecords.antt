@@ -26,14 +26,14 @@ use Rattle.cms_model.proofs.Cuts.{length_cut}
 use Rattle.cms_model.proofs.ListChanges.{name_from}
 use Rattle.cms_model.proofs.Results.{bind_then, ok_same, want_ok}
 use Rattle.cms_model.proofs.SettledUnits.{aside_is_as_before}
-use Rattle.cms_machine.specs.Slots.{Slot, Settled}
-use Rattle.cms_machine.specs.Steps.{Get, Outcome, Good, ReadFault, SyncFault, OldFault, EitherFault, MayGet, Offers, faults_in}
-use Rattle.cms_machine.specs.Acts as acts
-use Rattle.cms_machine.specs.Acts.{Act, saying, typed_line}
-use Rattle.cms_machine.specs.Points.{Point}
-use Rattle.cms_machine.specs.Runs.{Ran, Broke}
-use Rattle.cms_machine.proofs.Join.{ran_none, ran_then, broke_then}
-use Rattle.cms_machine.proofs.Single.{ran_still}
+use Rattle.cms_model.specs.Slots.{Slot, Settled}
+use Rattle.cms_model.specs.Steps.{Get, Outcome, Good, ReadFault, SyncFault, OldFault, EitherFault, MayGet, Offers, faults_in}
+use Rattle.cms_model.specs.Acts as acts
+use Rattle.cms_model.specs.Acts.{Act, saying, typed_line}
+use Rattle.cms_model.specs.Points.{Point}
+use Rattle.cms_model.specs.Runs.{Ran, Broke}
+use Rattle.cms_model.proofs.Join.{ran_none, ran_then, broke_then}
+use Rattle.cms_model.proofs.Single.{ran_still}
 use Rattle.cms_edf.specs.OpeningSteps.{OfImage}
 use Rattle.cms_disk.specs.Cursors.{Cursor, HasLeft, HoldLeft, HandsOut, SameFile, text_of, unread}
 use Rattle.cms_line.specs.Messages.{message_text}

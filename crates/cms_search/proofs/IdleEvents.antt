@@ -7,7 +7,7 @@ use Rattle.cms_journal.specs.Told.{Told, NoDisk, Idle, Grown}
 use Rattle.cms_journal.proofs.Events.{no_disk_aside}
 use Rattle.cms_journal.proofs.Pieces.{plus-some, plus-none}
 use Rattle.cms_model.specs.LawsUpdates.{after}
-use Rattle.cms_machine.specs.Slots.{Slot}
+use Rattle.cms_model.specs.Slots.{Slot}
 use Rattle.cms_search.specs.Calls.{Holds, IsUsableTable, Usable}
 use Rattle.cms_search.specs.Held.{HoldsTable}
 use Rattle.cms_search.specs.Tables.{AccessTable}

@@ -7,16 +7,16 @@ use Rattle.cms_journal.specs.declared.event.Event.{Event}
 use Rattle.cms_journal.specs.declared.event.Event.TheVariants.{Read, Now, Typed, Wrote, Synced, Missed}
 use Rattle.cms_journal.specs.Told.{Told, is_over, plus, script}
 use Rattle.cms_journal.proofs.Pieces.{is_over-append, plus_plus, script-append}
-use Rattle.cms_machine.specs.Acts.{Act, Asks, Does, Done, Drops, Out, Take, Turn, taking}
-use Rattle.cms_machine.specs.Beats.{OnlyRead, pieces}
-use Rattle.cms_machine.specs.Items.{Goes, Item, Lazy, Unread, extended, items, listed}
-use Rattle.cms_machine.specs.Points.{Point}
-use Rattle.cms_machine.specs.Runs.{Part}
-use Rattle.cms_machine.specs.Steps.{unit_of}
-use Rattle.cms_machine.proofs.Feed.{ended_chain, extended-append, extended-nil}
-use Rattle.cms_machine.proofs.Pieces.{disk_silent, typed_silent}
-use Rattle.cms_machine.proofs.Waits.{no_read}
-use Rattle.cms_machine.proofs.Whole.{chain_told, part_no_script}
+use Rattle.cms_model.specs.Acts.{Act, Asks, Does, Done, Drops, Out, Take, Turn, taking}
+use Rattle.cms_model.specs.Beats.{OnlyRead, pieces}
+use Rattle.cms_model.specs.Items.{Goes, Item, Lazy, Unread, extended, items, listed}
+use Rattle.cms_model.specs.Points.{Point}
+use Rattle.cms_model.specs.Runs.{Part}
+use Rattle.cms_model.specs.Steps.{unit_of}
+use Rattle.cms_model.proofs.Feed.{ended_chain, extended-append, extended-nil}
+use Rattle.cms_model.proofs.Pieces.{disk_silent, typed_silent}
+use Rattle.cms_model.proofs.Waits.{no_read}
+use Rattle.cms_model.proofs.Whole.{chain_told, part_no_script}
 use Rattle.cms_line.specs.ConsoleState.{Console, state}
 use Rattle.cms_line.specs.Consoles.{Stayed, Took, item_of}
 use Rattle.cms_line.specs.declared.console.ConsoleLine.{ConsoleLine}

@@ -7,7 +7,7 @@ use Rattle.cms_journal.specs.Journal.{Journal}
 use Rattle.cms_journal.specs.Told.{Told}
 use Rattle.cms_model.specs.LawsUpdates.{now}
 use Rattle.cms_model.specs.Minidisks.{Minidisk, Volume}
-use Rattle.cms_machine.specs.Slots.{Slot, Settled}
+use Rattle.cms_model.specs.Slots.{Slot, Settled}
 use Rattle.cms_disk.specs.Disks.{IsLookedAt, IsMinidisk, IsOn, IsReadable}
 use Rattle.cms_disk.specs.declared.unit.UnitInfo.{UnitInfo}
 use Rattle.cms_search.specs.Calls.{Spot, Usable, holds, machine_of}

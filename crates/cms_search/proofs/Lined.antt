@@ -5,11 +5,11 @@ use Rattle.std.proofs.lemmas.List.{drop_all, drop_more}
 use Rattle.std.proofs.lemmas.Option.{get_or_from_slice_get, slice_get_within}
 use Rattle.cms_journal.specs.Told.{Idle}
 use Rattle.cms_journal.proofs.Pieces.{idle_same, idle_then}
-use Rattle.cms_machine.specs.Acts.{Act, Done, Out, bind, saying, typed_line}
-use Rattle.cms_machine.specs.Points.{Point}
-use Rattle.cms_machine.specs.Runs.{Ran}
-use Rattle.cms_machine.specs.Slots.{Slot}
-use Rattle.cms_machine.proofs.Join.{broke_bind, broke_then, ran_bind, ran_none, ran_then}
+use Rattle.cms_model.specs.Acts.{Act, Done, Out, bind, saying, typed_line}
+use Rattle.cms_model.specs.Points.{Point}
+use Rattle.cms_model.specs.Runs.{Ran}
+use Rattle.cms_model.specs.Slots.{Slot}
+use Rattle.cms_model.proofs.Join.{broke_bind, broke_then, ran_bind, ran_none, ran_then}
 use Rattle.cms_world.specs.Seen.{Seen}
 use Rattle.cms_search.specs.Calls.{Acts, Does, Spot, after_world, course_of, itself, machine_of, said}
 use Rattle.cms_search.specs.Machine.{Course, Went, typing}

@@ -3,12 +3,12 @@ use Rattle.std.proofs.Common.{ℕ, ℤ, pos, true, List, [], ◌∷◌, ◌++◌
 use Rattle.std.specs.FinMap.{empty}
 use Rattle.cms_fields.specs.declared.time.Moment.{Moment}
 use Rattle.cms_text.specs.Texts.{ebcdic}
-use Rattle.cms_machine.specs.Acts.{Act}
-use Rattle.cms_machine.specs.Feeds.{Fed, Close, Over, WaitsForScript, WaitsForMoment, WaitsForObject, feed}
-use Rattle.cms_machine.specs.Items.{Item}
-use Rattle.cms_machine.specs.Slots.{Slot}
-use Rattle.cms_machine.specs.Steps.{Outcome}
-use Rattle.cms_machine.specs.Traces.{bytes_of}
+use Rattle.cms_model.specs.Acts.{Act}
+use Rattle.cms_model.specs.Feeds.{Fed, Close, Over, WaitsForScript, WaitsForMoment, WaitsForObject, feed}
+use Rattle.cms_model.specs.Items.{Item}
+use Rattle.cms_model.specs.Slots.{Slot}
+use Rattle.cms_model.specs.Steps.{Outcome}
+use Rattle.cms_model.specs.Traces.{bytes_of}
 use Rattle.cms_line.specs.Tokens.{tokens_of}
 use Rattle.cms_line.specs.declared.token.Token.{Token}
 use Rattle.cms_search.specs.Machine.{Letter, Machine, Course, Went, OutOfTurns}

@@ -7,7 +7,7 @@ use Rattle.std.proofs.lemmas.Bool.Decides.{eqb_tells}
 use Rattle.std.proofs.lemmas.List.{length-map}
 use Rattle.std.proofs.lemmas.Option.{same_Some}
 use Rattle.cms_journal.specs.Journal.{Journal}
-use Rattle.cms_machine.specs.Slots.{Slot}
+use Rattle.cms_model.specs.Slots.{Slot}
 use Rattle.cms_model.specs.Volumes.{Disk}
 use Rattle.cms_disk.specs.Disks.{IsQuiet}
 use Rattle.cms_disk.specs.declared.unit.UnitInfo.{UnitInfo}

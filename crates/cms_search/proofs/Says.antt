@@ -5,9 +5,9 @@ use Rattle.cms_journal.specs.declared.event.Event.{Event}
 use Rattle.cms_journal.specs.declared.event.Event.TheVariants.{Read, Now, Typed, Wrote, Synced, Missed}
 use Rattle.cms_journal.specs.Told.{Told, plus, TouchesNone, NoDisk, typed}
 use Rattle.cms_journal.proofs.Events.{all_weaker}
-use Rattle.cms_machine.specs.Acts.{Act, Done, saying, typed_line}
-use Rattle.cms_machine.specs.Beats.{IsTyped, OnlyTyped}
-use Rattle.cms_machine.proofs.Single.{ran_out, broke_out, broke_before}
+use Rattle.cms_model.specs.Acts.{Act, Done, saying, typed_line}
+use Rattle.cms_model.specs.Beats.{IsTyped, OnlyTyped}
+use Rattle.cms_model.proofs.Single.{ran_out, broke_out, broke_before}
 use Rattle.cms_journal.proofs.Pieces.{idle_same}
 use Rattle.cms_line.specs.Typed.{TypedTo, TypedPart}
 use Rattle.cms_journal.specs.Causes.{Rose}

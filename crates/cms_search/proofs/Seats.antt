@@ -5,7 +5,7 @@ use Rattle.std.specs.Option.{ForSome, IsSome, option_and_then}
 use Rattle.std.proofs.lemmas.Bool.{eq-eqb, eqb-true, ne_eqb}
 use Rattle.std.proofs.lemmas.List.{length-set}
 use Rattle.std.proofs.lemmas.Option.{same_Some}
-use Rattle.cms_machine.proofs.Units.{get_other}
+use Rattle.cms_model.proofs.Units.{get_other}
 use Rattle.cms_disk.specs.Disks.{Accessed}
 use Rattle.cms_search.specs.Held.{disk_of}
 use Rattle.cms_search.specs.Machine.{Letter}

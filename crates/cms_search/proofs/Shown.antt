@@ -10,7 +10,7 @@ use Rattle.cms_model.specs.Trees.{Image}
 use Rattle.cms_model.specs.LawsChanges.{NoneNamed, AreDistinct, IsPlace}
 use Rattle.cms_model.proofs.ListChanges.{names_told, name_other}
 use Rattle.cms_model.proofs.OpenedNames.{opened_distinct}
-use Rattle.cms_machine.specs.Slots.{Slot}
+use Rattle.cms_model.specs.Slots.{Slot}
 use Rattle.cms_held.specs.HeldVolumes.{HeldFile, HeldVolume, names_in}
 use Rattle.cms_edf.specs.FilesTold.{info_of, infos_in}
 use Rattle.cms_held.specs.LawsHeld.{IsFound}

@@ -2,9 +2,9 @@
 use Rattle.std.proofs.Common.{◌≡◌, ℕ, ℤ, List, [], Some, None, Ok, Err, Result, refl, sym, ap, ◌∙◌, subst}
 use Rattle.std.specs.Prelude.{IfOk, pos}
 use Rattle.cms_journal.specs.Told.{Told}
-use Rattle.cms_machine.specs.Acts.{Act, Done, saying, typed_line}
-use Rattle.cms_machine.specs.Slots.{Slot}
-use Rattle.cms_machine.proofs.Join.{ran_none}
+use Rattle.cms_model.specs.Acts.{Act, Done, saying, typed_line}
+use Rattle.cms_model.specs.Slots.{Slot}
+use Rattle.cms_model.proofs.Join.{ran_none}
 use Rattle.cms_line.specs.ConsoleState.{Console}
 use Rattle.cms_line.specs.Messages.{message_text}
 use Rattle.cms_line.specs.declared.message.Message.{Message}

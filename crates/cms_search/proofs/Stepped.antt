@@ -9,11 +9,11 @@ use Rattle.cms_fields.specs.Moments.{stamp_of}
 use Rattle.cms_fields.specs.declared.time.Stamp.{Stamp}
 use Rattle.cms_model.specs.Changes.{Answer, Change, answer_of}
 use Rattle.cms_model.specs.Minidisks.{Minidisk, Volume}
-use Rattle.cms_machine.specs.Slots.{Slot, Settled}
-use Rattle.cms_machine.specs.Steps.{EitherFault, Good, Outcome, Put, Step, faults_in, new_slot, sync_count}
-use Rattle.cms_machine.specs.Acts.{Act, Done, Out, bind, saying, typed_line}
-use Rattle.cms_machine.specs.Runs.{Ran}
-use Rattle.cms_machine.proofs.Single.{broke_before, ran_still}
+use Rattle.cms_model.specs.Slots.{Slot, Settled}
+use Rattle.cms_model.specs.Steps.{EitherFault, Good, Outcome, Put, Step, faults_in, new_slot, sync_count}
+use Rattle.cms_model.specs.Acts.{Act, Done, Out, bind, saying, typed_line}
+use Rattle.cms_model.specs.Runs.{Ran}
+use Rattle.cms_model.proofs.Single.{broke_before, ran_still}
 use Rattle.cms_line.specs.ConsoleState.{Console}
 use Rattle.cms_line.specs.Messages.{message_text}
 use Rattle.cms_line.specs.declared.message.Message.TheVariants.{M105}

@@ -18,15 +18,15 @@ use Rattle.cms_model.specs.LawsUpdates.{after, now}
 use Rattle.cms_model.specs.declared.fault.OpenFault.{OpenFault}
 use Rattle.cms_model.specs.declared.fault.OpenFault.TheVariants as failed
 use Rattle.cms_model.proofs.SettledUnits.{synced_leaves, synced_now}
-use Rattle.cms_machine.specs.Slots.{Slot, Settled, Doubt, Before, After, IsAmong, named, set_of, state_in, unit_set, unit_state}
-use Rattle.cms_machine.specs.Steps.{Access, MayAccess, Outcome, Good, ReadFault, SyncFault, OldFault, EitherFault, access_syncs, faults_in, units_after}
-use Rattle.cms_machine.specs.Acts.{Act, Does}
-use Rattle.cms_machine.specs.Beats.{AreStamped, Covers, KeepsConsole, written_count}
-use Rattle.cms_machine.specs.Points.{HasNow, HasNowIn, Leaves, LeavesIn, Point, Sound}
-use Rattle.cms_machine.specs.Runs.{Broke, Ran}
-use Rattle.cms_machine.proofs.Aside.{of_disk}
-use Rattle.cms_machine.proofs.Single.{begun_by, broke_step, ran_step}
-use Rattle.cms_machine.proofs.Units.{get_same}
+use Rattle.cms_model.specs.Slots.{Slot, Settled, Doubt, Before, After, IsAmong, named, set_of, state_in, unit_set, unit_state}
+use Rattle.cms_model.specs.Steps.{Access, MayAccess, Outcome, Good, ReadFault, SyncFault, OldFault, EitherFault, access_syncs, faults_in, units_after}
+use Rattle.cms_model.specs.Acts.{Act, Does}
+use Rattle.cms_model.specs.Beats.{AreStamped, Covers, KeepsConsole, written_count}
+use Rattle.cms_model.specs.Points.{HasNow, HasNowIn, Leaves, LeavesIn, Point, Sound}
+use Rattle.cms_model.specs.Runs.{Broke, Ran}
+use Rattle.cms_model.proofs.Aside.{of_disk}
+use Rattle.cms_model.proofs.Single.{begun_by, broke_step, ran_step}
+use Rattle.cms_model.proofs.Units.{get_same}
 use Rattle.cms_disk.specs.Disks.{IsRefused, disk_on, synced}
 use Rattle.cms_disk.specs.declared.unit.UnitInfo.{UnitInfo}
 use Rattle.cms_search.specs.Held.{HoldsUnit, IsDoubtSlot, IsSettledSlot, StandsAs, disk_of as disk_of_unit}

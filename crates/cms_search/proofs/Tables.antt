@@ -6,7 +6,7 @@ use Rattle.std.proofs.lemmas.Option.{get_or_from_slice_get, same_Some, slice_get
 use Rattle.std.proofs.lemmas.Bool.{eq-eqb}
 use Rattle.std.proofs.lemmas.List.{length-set, length-replicate, length-map}
 use Rattle.cms_journal.specs.Told.{Told}
-use Rattle.cms_machine.proofs.Units.{get_same, get_other}
+use Rattle.cms_model.proofs.Units.{get_same, get_other}
 use Rattle.cms_disk.specs.Disks.{Accessed, synced, told_with}
 use Rattle.cms_disk.specs.declared.fault.AccessFault.{AccessFault}
 use Rattle.cms_disk.specs.declared.unit.UnitInfo.{UnitInfo}

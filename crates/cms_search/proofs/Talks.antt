@@ -6,14 +6,14 @@ use Rattle.cms_journal.specs.Told.{Told, Idle, NoDisk}
 use Rattle.cms_journal.specs.declared.event.Event.{Event}
 use Rattle.cms_journal.specs.declared.event.Event.TheVariants.{Now}
 use Rattle.cms_journal.proofs.Pieces.{idle_same, idle_then}
-use Rattle.cms_machine.specs.Acts.{Act, Done, bind, taking, turning}
-use Rattle.cms_machine.specs.Beats.{IsRead, OnlyRead}
-use Rattle.cms_machine.specs.Items.{Item, Text}
-use Rattle.cms_machine.specs.Objects.{Object}
-use Rattle.cms_machine.specs.Runs.{Ran}
-use Rattle.cms_machine.specs.Slots.{Slot}
-use Rattle.cms_machine.proofs.Join.{after, broke_in, ran_none}
-use Rattle.cms_machine.proofs.Single.{broke_before, broke_take, ran_take, ran_turn}
+use Rattle.cms_model.specs.Acts.{Act, Done, bind, taking, turning}
+use Rattle.cms_model.specs.Beats.{IsRead, OnlyRead}
+use Rattle.cms_model.specs.Items.{Item, Text}
+use Rattle.cms_model.specs.Objects.{Object}
+use Rattle.cms_model.specs.Runs.{Ran}
+use Rattle.cms_model.specs.Slots.{Slot}
+use Rattle.cms_model.proofs.Join.{after, broke_in, ran_none}
+use Rattle.cms_model.proofs.Single.{broke_before, broke_take, ran_take, ran_turn}
 use Rattle.cms_line.specs.ConsoleState.{Console}
 use Rattle.cms_line.specs.Consoles.{Stayed, Took, item_of}
 use Rattle.cms_line.specs.declared.console.ConsoleLine.{ConsoleLine}

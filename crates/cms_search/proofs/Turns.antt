@@ -2,9 +2,9 @@
 use Rattle.std.proofs.Common.{◌≡◌, ℕ, ℤ, List, Result, Ok, Err, refl, ap, ◌∙◌, sym, subst}
 use Rattle.cms_fields.specs.declared.time.Moment.{Moment}
 use Rattle.cms_fields.specs.Moments.{moment_of}
-use Rattle.cms_machine.specs.Objects.{Object}
-use Rattle.cms_machine.specs.Slots.{Slot}
-use Rattle.cms_machine.specs.Acts.{Act, Done, bind, turning}
+use Rattle.cms_model.specs.Objects.{Object}
+use Rattle.cms_model.specs.Slots.{Slot}
+use Rattle.cms_model.specs.Acts.{Act, Done, bind, turning}
 use Rattle.cms_line.specs.ConsoleState.{Console}
 use Rattle.cms_search.specs.Calls.{SpotWith, Meaning, Does, Acts, itself, machine_of}
 use Rattle.cms_search.specs.Machine.{turned}

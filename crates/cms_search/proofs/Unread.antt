@@ -4,10 +4,10 @@ use Rattle.std.specs.Prelude.{◌==◌, cond, option_map, slice_set}
 use Rattle.std.proofs.lemmas.List.{length-map}
 use Rattle.std.proofs.lemmas.Option.{same_Some}
 use Rattle.cms_journal.specs.Journal.{Journal}
-use Rattle.cms_machine.specs.Acts.{Act}
-use Rattle.cms_machine.specs.Runs.{Ran}
-use Rattle.cms_machine.specs.Slots.{Slot}
-use Rattle.cms_machine.proofs.Join.{ran_none}
+use Rattle.cms_model.specs.Acts.{Act}
+use Rattle.cms_model.specs.Runs.{Ran}
+use Rattle.cms_model.specs.Slots.{Slot}
+use Rattle.cms_model.proofs.Join.{ran_none}
 use Rattle.cms_disk.specs.declared.unit.UnitInfo.{UnitInfo}
 use Rattle.cms_world.specs.Seen.{Seen}
 use Rattle.cms_search.specs.Calls.{Comes, IsSeatOf, IsUsableTable, Spot, at, machine_of}

@@ -12,10 +12,10 @@ use Rattle.cms_fields.specs.declared.time.Stamp.{Stamp}
 use Rattle.cms_model.specs.Changes.{Answer, Change, Changed, Full, Limited, answer_of}
 use Rattle.cms_model.specs.Volumes.{Disk}
 use Rattle.cms_model.specs.Minidisks.{Minidisk, Volume}
-use Rattle.cms_machine.specs.Acts.{Act}
-use Rattle.cms_machine.specs.Runs.{Ran}
-use Rattle.cms_machine.specs.Slots.{Settled, Slot}
-use Rattle.cms_machine.specs.Steps.{OldFault, Outcome, ReadFault, after_put, faults_in}
+use Rattle.cms_model.specs.Acts.{Act}
+use Rattle.cms_model.specs.Runs.{Ran}
+use Rattle.cms_model.specs.Slots.{Settled, Slot}
+use Rattle.cms_model.specs.Steps.{OldFault, Outcome, ReadFault, after_put, faults_in}
 use Rattle.cms_disk.specs.Changes.{Appends, Changes, Kept, Unread}
 use Rattle.cms_disk.specs.Disks.{Accessed}
 use Rattle.cms_disk.specs.declared.fault.DiskFault.{DiskFault}

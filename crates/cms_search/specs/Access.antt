@@ -6,9 +6,9 @@ use Rattle.cms_model.specs.Minidisks.{Volume, Not}
 use Rattle.cms_model.specs.Volumes.{reason}
 use Rattle.cms_model.specs.declared.fault.OpenFault.{OpenFault}
 use Rattle.cms_model.specs.declared.fault.OpenFault.TheVariants as fails
-use Rattle.cms_machine.specs.Acts.{Act, Done, Does}
-use Rattle.cms_machine.specs.Slots.{Slot, state_in}
-use Rattle.cms_machine.specs.Steps.{Access, Outcome, Good, ReadFault, SyncFault, OldFault, EitherFault}
+use Rattle.cms_model.specs.Acts.{Act, Done, Does}
+use Rattle.cms_model.specs.Slots.{Slot, state_in}
+use Rattle.cms_model.specs.Steps.{Access, Outcome, Good, ReadFault, SyncFault, OldFault, EitherFault}
 use Rattle.cms_search.specs.Calls.{machine_of}
 use Rattle.cms_search.specs.Machine.{Letter, Machine, Places, after_step}
 use Rattle.cms_search.specs.Places.{after}

@@ -1,7 +1,7 @@
 -- A line that a command asks for.
 use Rattle.std.specs.Prelude.{ℕ, zero, suc, List, [], ◌∷◌, Option, Some, None}
-use Rattle.cms_machine.specs.Items.{Item, Text, Bad, Long, Rest}
-use Rattle.cms_machine.specs.Acts.{Act, Done, Out, Take, Turn, typed_line}
+use Rattle.cms_model.specs.Items.{Item, Text, Bad, Long, Rest}
+use Rattle.cms_model.specs.Acts.{Act, Done, Out, Take, Turn, typed_line}
 use Rattle.cms_line.specs.declared.message.Message.{Message}
 use Rattle.cms_line.specs.declared.message.Message.TheVariants.{M010, M011}
 use Rattle.cms_line.specs.Messages.{message_text}

@@ -6,11 +6,11 @@ use Rattle.cms_journal.specs.Causes.{Rose}
 use Rattle.cms_journal.specs.Journal.{Journal, HasBlocks, IsWritable}
 use Rattle.cms_journal.specs.Told.{Told, Idle, Grown}
 use Rattle.cms_fields.specs.Moments.{first_moment}
-use Rattle.cms_machine.specs.Slots.{Slot}
-use Rattle.cms_machine.specs.Acts.{Act, Done, Out, typed_line}
-use Rattle.cms_machine.specs.Objects.{Object}
-use Rattle.cms_machine.specs.Points.{Point}
-use Rattle.cms_machine.specs.Runs.{Ran, Broke}
+use Rattle.cms_model.specs.Slots.{Slot}
+use Rattle.cms_model.specs.Acts.{Act, Done, Out, typed_line}
+use Rattle.cms_model.specs.Objects.{Object}
+use Rattle.cms_model.specs.Points.{Point}
+use Rattle.cms_model.specs.Runs.{Ran, Broke}
 use Rattle.cms_world.specs.declared.world.World.{Ghosts}
 use Rattle.cms_world.specs.Seen.{Seen, seen}
 use Rattle.cms_words.specs.declared.words.Words.{Words}

@@ -1,8 +1,8 @@
 -- What a change of a disk came to, as commands tell it.
 use Rattle.std.specs.Prelude.{ℕ, pos, List}
 use Rattle.cms_text.specs.Numbers.{decimal_of}
-use Rattle.cms_machine.specs.Acts.{Act, Done}
-use Rattle.cms_machine.specs.Slots.{Slot}
+use Rattle.cms_model.specs.Acts.{Act, Done}
+use Rattle.cms_model.specs.Slots.{Slot}
 use Rattle.cms_line.specs.declared.message.Message.TheVariants.{M107, M120}
 use Rattle.cms_search.specs.DeviceSteps.{Changing, IsChanged, IsLimited, IsFull, HasFailed, changing_of}
 use Rattle.cms_search.specs.Machine.{Course, Went, refusal}

@@ -3,9 +3,9 @@ use Rattle.std.specs.Prelude.{◌≡◌, ◌≤◌, ℕ, List, take, Option, Som
 use Rattle.cms_fields.specs.Moments.{stamp_of}
 use Rattle.cms_model.specs.Minidisks.{File, Minidisk}
 use Rattle.cms_model.specs.Changes.{Change, Answer, Limited, Full, Changed, answer_of}
-use Rattle.cms_machine.specs.Slots.{Slot}
-use Rattle.cms_machine.specs.Acts.{Act, Done, Does, bind}
-use Rattle.cms_machine.specs.Steps.{Step, Get, Put, Outcome, Good, ReadFault, SyncFault, OldFault, EitherFault}
+use Rattle.cms_model.specs.Slots.{Slot}
+use Rattle.cms_model.specs.Acts.{Act, Done, Does, bind}
+use Rattle.cms_model.specs.Steps.{Step, Get, Put, Outcome, Good, ReadFault, SyncFault, OldFault, EitherFault}
 use Rattle.cms_world.specs.Seen.{Seen}
 use Rattle.cms_search.specs.Calls.{Meaning, course_of, machine_of}
 use Rattle.cms_search.specs.Machine.{Letter, Machine, Course, after_step, letter_at, minidisk_in}

@@ -9,7 +9,7 @@ use Rattle.cms_fields.specs.declared.time.Stamp.{Stamp}
 use Rattle.cms_model.specs.Changes.{Change, Put, Add}
 use Rattle.cms_model.specs.Minidisks.{Minidisk}
 use Rattle.cms_model.specs.declared.file.FileData.{FileData}
-use Rattle.cms_machine.specs.Slots.{Slot}
+use Rattle.cms_model.specs.Slots.{Slot}
 use Rattle.cms_held.specs.HeldVolumes.{HeldVolume}
 use Rattle.cms_world.specs.Seen.{Seen}
 use Rattle.cms_disk.specs.Additions.{FitsFile}

@@ -6,8 +6,8 @@ use Rattle.cms_model.specs.Minidisks.{File, Minidisk, State, Volume}
 use Rattle.cms_model.specs.Trees.{Image}
 use Rattle.cms_model.specs.LawsSizes.{IsWhole}
 use Rattle.cms_model.specs.LawsUpdates.{now}
-use Rattle.cms_machine.specs.Slots.{Slot, Settled, Doubt, IsAmong, set_of, state_in}
-use Rattle.cms_machine.specs.Points.{LeavesIn, HasNowIn}
+use Rattle.cms_model.specs.Slots.{Slot, Settled, Doubt, IsAmong, set_of, state_in}
+use Rattle.cms_model.specs.Points.{LeavesIn, HasNowIn}
 use Rattle.cms_disk.specs.Cursors.{HasLeft}
 use Rattle.cms_disk.specs.Disks.{IsMinidisk, IsOn, IsQuiet, disk_on}
 use Rattle.cms_disk.specs.EmptyMinidisks.{IsSeen}

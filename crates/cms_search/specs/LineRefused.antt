@@ -1,6 +1,6 @@
 -- A command's line that isn't taken.
 use Rattle.std.specs.Prelude.{◌≡◌, List, pos, Result, Err, IfOk}
-use Rattle.cms_machine.specs.Acts.{saying, typed_line}
+use Rattle.cms_model.specs.Acts.{saying, typed_line}
 use Rattle.cms_line.specs.Messages.{message_text}
 use Rattle.cms_line.specs.declared.token.Token.{Token}
 use Rattle.cms_operands.specs.Refusals.{code_of, message_of}

@@ -9,9 +9,9 @@ use Rattle.cms_fields.specs.declared.time.Moment.{Moment}
 use Rattle.cms_fields.specs.Moments.{moment_of}
 use Rattle.cms_model.specs.Minidisks.{File, Minidisk, Volume, Not}
 use Rattle.cms_model.specs.Changes.{file_named}
-use Rattle.cms_machine.specs.Slots.{Slot, Settled, Doubt}
-use Rattle.cms_machine.specs.Steps.{Step, Outcome, units_after}
-use Rattle.cms_machine.specs.Acts.{Act, Done, Out, typed_line}
+use Rattle.cms_model.specs.Slots.{Slot, Settled, Doubt}
+use Rattle.cms_model.specs.Steps.{Step, Outcome, units_after}
+use Rattle.cms_model.specs.Acts.{Act, Done, Out, typed_line}
 use Rattle.cms_line.specs.declared.message.Message.{Message}
 use Rattle.cms_line.specs.Messages.{message_text}
 use Rattle.cms_search.specs.declared.state.Device.{Device}

@@ -1,7 +1,7 @@
 -- The refusals that several commands have. Each types its message and ends the command with its code.
 use Rattle.std.specs.Prelude.{ℕ, List, Result, Ok, Err}
-use Rattle.cms_machine.specs.Acts.{Act}
-use Rattle.cms_machine.specs.Steps.{Outcome, Good, ReadFault, SyncFault, OldFault, EitherFault}
+use Rattle.cms_model.specs.Acts.{Act}
+use Rattle.cms_model.specs.Steps.{Outcome, Good, ReadFault, SyncFault, OldFault, EitherFault}
 use Rattle.cms_line.specs.declared.message.Message.{Message}
 use Rattle.cms_line.specs.declared.message.Message.TheVariants.{M037, M069, M105, M106, M113}
 use Rattle.cms_line.specs.declared.token.Token.{Token}

@@ -5,7 +5,7 @@ use Rattle.std.specs.Option.{option_map, option_map_or, option_and_then}
 use Rattle.cms_names.specs.declared.name.Name.{Name}
 use Rattle.cms_names.specs.Patterns.{fits}
 use Rattle.cms_model.specs.Minidisks.{File, Minidisk, same_name}
-use Rattle.cms_machine.specs.Slots.{Slot}
+use Rattle.cms_model.specs.Slots.{Slot}
 use Rattle.cms_operands.specs.ReadModes.{admits}
 use Rattle.cms_search.specs.Machine.{Letter, Machine, minidisk_in}
 use Rattle.cms_search.specs.declared.fault.SearchFault.{SearchFault}

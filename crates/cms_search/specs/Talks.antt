@@ -3,11 +3,11 @@ use Rattle.std.specs.Prelude.{◌≡◌, ℕ, ◌+◌, ◌≤◌, Bool, ◌||◌
 use Rattle.cms_journal.specs.declared.event.Event.{Event}
 use Rattle.cms_journal.specs.Causes.{Rose}
 use Rattle.cms_journal.specs.Told.{Told, Idle, is_over, plus, script}
-use Rattle.cms_machine.specs.Slots.{Slot}
-use Rattle.cms_machine.specs.Items.{Item, Text, Bad, Long, Rest, Goes, extended, items}
-use Rattle.cms_machine.specs.Acts.{Act}
-use Rattle.cms_machine.specs.Objects.{Object}
-use Rattle.cms_machine.specs.Points.{Point}
+use Rattle.cms_model.specs.Slots.{Slot}
+use Rattle.cms_model.specs.Items.{Item, Text, Bad, Long, Rest, Goes, extended, items}
+use Rattle.cms_model.specs.Acts.{Act}
+use Rattle.cms_model.specs.Objects.{Object}
+use Rattle.cms_model.specs.Points.{Point}
 use Rattle.cms_line.specs.ConsoleState.{Console}
 use Rattle.cms_search.specs.Asks as asking
 use Rattle.cms_world.specs.Seen.{Seen}

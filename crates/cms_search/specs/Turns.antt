@@ -1,7 +1,7 @@
 -- What a turn does, as a part of the machine's run.
 use Rattle.std.specs.Prelude.{ℕ, List}
-use Rattle.cms_machine.specs.Slots.{Slot}
-use Rattle.cms_machine.specs.Acts.{Act, Turn, Done}
+use Rattle.cms_model.specs.Slots.{Slot}
+use Rattle.cms_model.specs.Acts.{Act, Turn, Done}
 use Rattle.cms_search.specs.Calls.{Meaning, machine_of}
 use Rattle.cms_search.specs.Machine.{Machine, turned}
 use Rattle.cms_search.specs.declared.state.State.{State}

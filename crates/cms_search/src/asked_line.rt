@@ -1,6 +1,6 @@
 // A line that a command asks for.
 ghost use Rattle.std.specs.Prelude.{◌≡◌, ◌≤◌, IfOk, OnErr, OnOk, drop};
-ghost use Rattle.cms_machine.specs.Acts.{Done, taking, turning};
+ghost use Rattle.cms_model.specs.Acts.{Done, taking, turning};
 ghost use Rattle.cms_line.specs.ConsoleState as states;
 ghost use Rattle.cms_line.specs.Consoles.{Stayed, Took, item_of};
 ghost use Rattle.cms_search.specs.Asks.{ask, complaining, complaint, dropping};

@@ -1,7 +1,7 @@
 // What a change of a disk came to, as commands tell it.
 ghost use Rattle.std.specs.Prelude.{◌≡◌, IfOk, pos};
 ghost use Rattle.cms_text.specs.Numbers.{decimal_of};
-ghost use Rattle.cms_machine.specs.Acts.{saying, typed_line};
+ghost use Rattle.cms_model.specs.Acts.{saying, typed_line};
 ghost use Rattle.cms_line.specs.Messages.{message_text};
 ghost use Rattle.cms_line.specs.declared.message.Message.TheVariants.{M107, M120};
 ghost use Rattle.cms_search.specs.Calls.{Acts, Does, course_of, said, spot};

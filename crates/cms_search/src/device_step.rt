@@ -3,8 +3,8 @@ ghost use Rattle.std.specs.Prelude.{◌≡◌, List, true, IfOk, IsSome, Ok, pos
 ghost use Rattle.std.specs.Option.{ForSome};
 ghost use Rattle.cms_fields.specs.Moments.{is_moment};
 ghost use Rattle.cms_model.specs.Changes as model;
-ghost use Rattle.cms_machine.specs.Acts.{saying, typed_line};
-ghost use Rattle.cms_machine.specs.Slots.{Slot};
+ghost use Rattle.cms_model.specs.Acts.{saying, typed_line};
+ghost use Rattle.cms_model.specs.Slots.{Slot};
 ghost use Rattle.cms_world.specs.Seen.{seen};
 ghost use Rattle.cms_line.specs.Messages.{message_text};
 ghost use Rattle.cms_line.specs.declared.message.Message.TheVariants.{M105, M106};

@@ -1,6 +1,6 @@
 // Lines, messages, refusals and the ready line.
 ghost use Rattle.std.specs.Prelude.{◌≡◌, ◌<◌, ◌+◌, ◌/◌, ◌%◌, IfOk};
-ghost use Rattle.cms_machine.specs.Acts.{Done, saying, typed_line};
+ghost use Rattle.cms_model.specs.Acts.{Done, saying, typed_line};
 ghost use Rattle.cms_line.specs.Messages.{message_text};
 ghost use Rattle.cms_search.specs.Ready.{ready_line, ready_with};
 ghost use Rattle.cms_search.specs.Calls.{Does, itself, said};

@@ -1,6 +1,6 @@
 // The refusals that several commands have.
 ghost use Rattle.std.specs.Prelude.{◌≡◌, IfOk, pos};
-ghost use Rattle.cms_machine.specs.Acts.{saying, typed_line};
+ghost use Rattle.cms_model.specs.Acts.{saying, typed_line};
 ghost use Rattle.cms_line.specs.Messages.{message_text};
 ghost use Rattle.cms_line.specs.declared.message.Message.TheVariants.{M037, M069, M113};
 ghost use Rattle.cms_operands.specs.Refusals.{code_of, message_of};

@@ -1,9 +1,9 @@
 -- A call that knows of no object, in a session that has some.
 use Rattle.std.proofs.Common.{◌≡◌, List, Result, Ok, Err, refl, ap, subst, sym}
-use Rattle.cms_machine.specs.Acts.{Act, Done, bind}
-use Rattle.cms_machine.specs.Objects.{Object}
-use Rattle.cms_machine.specs.Slots.{Slot}
-use Rattle.cms_machine.proofs.ObjectsAsked.{broke_beside, ran_beside}
+use Rattle.cms_model.specs.Acts.{Act, Done, bind}
+use Rattle.cms_model.specs.Objects.{Object}
+use Rattle.cms_model.specs.Slots.{Slot}
+use Rattle.cms_model.proofs.ObjectsAsked.{broke_beside, ran_beside}
 use Rattle.cms_search.specs.Calls.{Acts, Meaning, Spot, SpotWith, at}
 use Rattle.cms_search.specs.declared.state.End.{End}
 use Rattle.cms_search.specs.declared.state.State.{State}

@@ -8,19 +8,19 @@ use Rattle.cms_journal.specs.declared.event.Attached.{Attached}
 use Rattle.cms_journal.specs.Causes.{Counted}
 use Rattle.cms_journal.specs.Told.{Told, typed, moments}
 use Rattle.cms_model.specs.Minidisks.{State}
-use Rattle.cms_machine.specs.Slots.{Slot, Settled, state_in, set_of, unit_set, unit_state, IsAmong}
-use Rattle.cms_machine.specs.Steps.{faults_in}
-use Rattle.cms_machine.specs.Acts.{Act}
-use Rattle.cms_machine.specs.Acts as acts
-use Rattle.cms_machine.specs.LawsObjects.{AreDistinct}
-use Rattle.cms_machine.specs.Objects.{Back, Object}
-use Rattle.cms_machine.specs.Steps.{Outcome}
-use Rattle.cms_machine.specs.Points.{LeavesIn, Leaves, HasNowIn, HasNow, Point, Sound}
-use Rattle.cms_machine.specs.Beats.{AreWellOn, pieces, outcomes, backs}
-use Rattle.cms_machine.specs.Runs.{Ran, Broke, events_of}
-use Rattle.cms_machine.proofs.Law.{at_of_within}
-use Rattle.cms_machine.proofs.Single.{broke_before}
-use Rattle.cms_machine.proofs.Whole.{follows_tree, comes_to, whole}
+use Rattle.cms_model.specs.Slots.{Slot, Settled, state_in, set_of, unit_set, unit_state, IsAmong}
+use Rattle.cms_model.specs.Steps.{faults_in}
+use Rattle.cms_model.specs.Acts.{Act}
+use Rattle.cms_model.specs.Acts as acts
+use Rattle.cms_model.specs.LawsObjects.{AreDistinct}
+use Rattle.cms_model.specs.Objects.{Back, Object}
+use Rattle.cms_model.specs.Steps.{Outcome}
+use Rattle.cms_model.specs.Points.{LeavesIn, Leaves, HasNowIn, HasNow, Point, Sound}
+use Rattle.cms_model.specs.Beats.{AreWellOn, pieces, outcomes, backs}
+use Rattle.cms_model.specs.Runs.{Ran, Broke, events_of}
+use Rattle.cms_model.proofs.LawOfBeats.{at_of_within}
+use Rattle.cms_model.proofs.Single.{broke_before}
+use Rattle.cms_model.proofs.Whole.{follows_tree, comes_to, whole}
 use Rattle.cms_disk.specs.declared.unit.UnitInfo.{UnitInfo}
 use Rattle.cms_search.specs.Calls.{Holds, Acts, at, first_state, machine_of}
 use Rattle.cms_search.specs.Machine.{Letter, Machine}

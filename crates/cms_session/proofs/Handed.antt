@@ -1,9 +1,9 @@
 -- The objects that a session was handed: their words differ, and one that was dropped is asked no more.
 use Rattle.std.proofs.Common.{◌≡◌, ◌<◌, ℕ, zero, suc, List, [], ◌∷◌, ◌++◌, Some, refl, ap, sym, subst, arith, map, length, slice_get}
-use Rattle.cms_machine.specs.Beats.{Asked, Beat, Beats, Chain, Dropped}
-use Rattle.cms_machine.specs.Objects.{Object}
-use Rattle.cms_machine.specs.Points.{Point}
-use Rattle.cms_machine.proofs.ObjectsAsked.{asked_answers, asked_no_more, dropped_is_gone, stay_distinct}
+use Rattle.cms_model.specs.Beats.{Asked, Beat, Beats, Chain, Dropped}
+use Rattle.cms_model.specs.Objects.{Object}
+use Rattle.cms_model.specs.Points.{Point}
+use Rattle.cms_model.proofs.ObjectsAsked.{asked_answers, asked_no_more, dropped_is_gone, stay_distinct}
 use Rattle.cms_ext.specs.Objects.{words_of}
 use Rattle.cms_ext.proofs.Lists.{distinct}
 use Rattle.cms_session.specs.declared.status.Status.{Status}

@@ -2,10 +2,10 @@
 use Rattle.std.proofs.Common.{◌≡◌, ◌<◌, ◌≤◌, ◌∙◌, ℕ, pos, List, length, Option, Some, None, Result, Ok, Err, refl, sym, ap, subst}
 use Rattle.std.specs.Prelude.{remove}
 use Rattle.std.proofs.lemmas.List.{length-map}
-use Rattle.cms_machine.specs.Acts.{Act, Done, bind}
-use Rattle.cms_machine.specs.Objects.{Object}
-use Rattle.cms_machine.specs.Slots.{Slot}
-use Rattle.cms_machine.proofs.Single.{ran_drop}
+use Rattle.cms_model.specs.Acts.{Act, Done, bind}
+use Rattle.cms_model.specs.Objects.{Object}
+use Rattle.cms_model.specs.Slots.{Slot}
+use Rattle.cms_model.proofs.Single.{ran_drop}
 use Rattle.cms_line.specs.declared.message.Message.TheVariants.{M122}
 use Rattle.cms_line.specs.declared.token.Token.{Token}
 use Rattle.cms_operands.specs.Choices.{AnswersLine}

@@ -3,7 +3,7 @@ use Rattle.std.proofs.Common.{◌≡◌, ◌<◌, ◌∙◌, ℕ, true, List, []
 use Rattle.std.specs.Option.{option_and_then}
 use Rattle.std.specs.Str.{bytes_eq}
 use Rattle.std.proofs.lemmas.List.Quantifiers.{position-Some}
-use Rattle.cms_machine.specs.Objects.{Object}
+use Rattle.cms_model.specs.Objects.{Object}
 use Rattle.cms_line.specs.declared.token.Token.{Token}
 use Rattle.cms_names.specs.Names.{part_of}
 use Rattle.cms_operands.specs.Operands.{given}

@@ -1,8 +1,8 @@
 -- The session's rounds, one after another.
 use Rattle.std.proofs.Common.{◌≡◌, ℕ, zero, suc, ◌<◌, List, [], Result, Ok, Err, refl, subst, arith}
-use Rattle.cms_machine.specs.Objects.{Object}
-use Rattle.cms_machine.specs.Slots.{Slot}
-use Rattle.cms_machine.specs.Acts.{Act, Done, bind}
+use Rattle.cms_model.specs.Objects.{Object}
+use Rattle.cms_model.specs.Slots.{Slot}
+use Rattle.cms_model.specs.Acts.{Act, Done, bind}
 use Rattle.cms_search.specs.declared.state.End.{End}
 use Rattle.cms_search.specs.declared.state.State.{State}
 use Rattle.cms_search.specs.Calls.{SpotWith, Acts, Comes, machine_of}

@@ -2,7 +2,7 @@
 use Rattle.std.proofs.Common.{◌≡◌, inl, inr, ℕ, ℤ, ◌+◌, ◌<◌, ◌≤◌, Bool, true, false, List, [], ◌∷◌, length, Option, Some, None, Ok, Err, codes, refl, ap, sym, subst, ◌∙◌, arith}
 use Rattle.std.specs.Prelude.{◌≢◌, ⊤, Result, nat_le, ok_or, if◌then◌else◌}
 use Rattle.std.proofs.lemmas.Bool.{leb-false}
-use Rattle.cms_machine.specs.Objects.{Object}
+use Rattle.cms_model.specs.Objects.{Object}
 use Rattle.cms_words.specs.Readings.{IsAnswer}
 use Rattle.cms_words.specs.Command.{are_taken, rows_in, units_in, value_in}
 use Rattle.cms_words.specs.UnitWords.{unit_word_of}

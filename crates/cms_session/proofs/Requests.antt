@@ -1,8 +1,8 @@
 -- What lines come to.
 use Rattle.std.proofs.Common.{◌≡◌, ℕ, pos, true, false, List, [], ◌∷◌, slice_get, Option, Some, None, Result, Ok, Err, refl, ap, sym, ◌∙◌, subst}
-use Rattle.cms_machine.specs.Slots.{Slot}
-use Rattle.cms_machine.specs.Acts.{Act, Done, bind}
-use Rattle.cms_machine.specs.Objects.{Object, Start}
+use Rattle.cms_model.specs.Slots.{Slot}
+use Rattle.cms_model.specs.Acts.{Act, Done, bind}
+use Rattle.cms_model.specs.Objects.{Object, Start}
 use Rattle.cms_line.specs.Tokens.{tokens_of}
 use Rattle.cms_line.specs.declared.token.Token.{Token}
 use Rattle.cms_search.specs.Calls.{SpotWith, Acts, holds, machine_of, course_of}

@@ -3,11 +3,11 @@ use Rattle.std.proofs.Common.{◌≡◌, ℕ, ℤ, ◌≤◌, suc, List, [], ◌
 use Rattle.std.specs.FinMap.{empty}
 use Rattle.std.specs.Prelude.{option_map, pos}
 use Rattle.cms_journal.specs.Causes.{Rose}
-use Rattle.cms_machine.specs.Slots.{Slot}
-use Rattle.cms_machine.specs.Objects.{Object}
-use Rattle.cms_machine.specs.Items as items
-use Rattle.cms_machine.specs.Items.{Item}
-use Rattle.cms_machine.specs.Acts.{Act, Done, bind, saying, taking as taking_item, typed_line}
+use Rattle.cms_model.specs.Slots.{Slot}
+use Rattle.cms_model.specs.Objects.{Object}
+use Rattle.cms_model.specs.Items as items
+use Rattle.cms_model.specs.Items.{Item}
+use Rattle.cms_model.specs.Acts.{Act, Done, bind, saying, taking as taking_item, typed_line}
 use Rattle.cms_line.specs.Consoles.{Took, Stayed, item_of}
 use Rattle.cms_line.specs.declared.console.ConsoleLine.{ConsoleLine}
 use Rattle.cms_line.specs.Messages.{message_text}

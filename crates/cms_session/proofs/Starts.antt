@@ -15,8 +15,8 @@ use Rattle.cms_model.specs.LawsSizes.{IsWhole}
 use Rattle.cms_model.specs.LawsUpdates.{now}
 use Rattle.cms_model.specs.declared.fault.OpenFault.{OpenFault}
 use Rattle.cms_model.proofs.SettledUnits.{untouched_starts}
-use Rattle.cms_machine.specs.Slots.{Settled}
-use Rattle.cms_machine.specs.Points.{LeavesIn, HasNowIn}
+use Rattle.cms_model.specs.Slots.{Settled}
+use Rattle.cms_model.specs.Points.{LeavesIn, HasNowIn}
 use Rattle.cms_disk.specs.Disks.{IsQuiet, disk_on}
 use Rattle.cms_disk.specs.declared.unit.UnitInfo.{UnitInfo}
 use Rattle.cms_search.specs.Calls.{Holds}

@@ -2,10 +2,10 @@
 use Rattle.std.proofs.Common.{◌≡◌, ℕ, ℤ, suc, ◌+◌, Bool, true, false, List, [], ◌∷◌, length, Option, Some, None, Result, Ok, Err, refl, ap, sym, ◌∙◌, subst}
 use Rattle.std.specs.Prelude.{nat_le}
 use Rattle.cms_fields.specs.declared.time.Moment.{Moment}
-use Rattle.cms_machine.specs.Objects.{Object}
-use Rattle.cms_machine.specs.Slots.{Slot}
-use Rattle.cms_machine.specs.Acts.{Act, Done, Out, bind, saying}
-use Rattle.cms_machine.proofs.Join.{broke_here}
+use Rattle.cms_model.specs.Objects.{Object}
+use Rattle.cms_model.specs.Slots.{Slot}
+use Rattle.cms_model.specs.Acts.{Act, Done, Out, bind, saying}
+use Rattle.cms_model.proofs.Join.{broke_here}
 use Rattle.cms_line.specs.Stack.{most_lines}
 use Rattle.cms_search.specs.Asks as asks
 use Rattle.cms_search.specs.Calls.{Spot, SpotWith, Does, Acts, Comes, itself, said, machine_of, course_of}

@@ -2,9 +2,9 @@
 use Rattle.std.proofs.Common.{◌≡◌, ◌∙◌, ℕ, List, pos, Option, None, Result, Ok, Err, refl, sym, ap}
 use Rattle.std.specs.Prelude.{map}
 use Rattle.cms_ebcdic.specs.CodePage.{upper_of}
-use Rattle.cms_machine.specs.Acts.{Act, bind}
-use Rattle.cms_machine.specs.Objects.{Object}
-use Rattle.cms_machine.specs.Slots.{Slot}
+use Rattle.cms_model.specs.Acts.{Act, bind}
+use Rattle.cms_model.specs.Objects.{Object}
+use Rattle.cms_model.specs.Slots.{Slot}
 use Rattle.cms_line.specs.declared.message.Message.TheVariants.{M122}
 use Rattle.cms_search.specs.Calls.{Acts, SpotWith, course_of, holds, refusal_tree}
 use Rattle.cms_search.specs.declared.state.Course as declared

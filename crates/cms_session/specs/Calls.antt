@@ -1,8 +1,8 @@
 -- What a call of the session does, as a part of the machine's run.
 use Rattle.std.specs.Prelude.{List}
-use Rattle.cms_machine.specs.Slots.{Slot}
-use Rattle.cms_machine.specs.Acts.{Act}
-use Rattle.cms_machine.specs.Objects.{Object}
+use Rattle.cms_model.specs.Slots.{Slot}
+use Rattle.cms_model.specs.Acts.{Act}
+use Rattle.cms_model.specs.Objects.{Object}
 use Rattle.cms_search.specs.Calls.{Meaning, machine_of}
 use Rattle.cms_search.specs.Machine.{Machine}
 use Rattle.cms_search.specs.declared.state.State.{State}

@@ -1,5 +1,5 @@
 -- The decks of the session's reader, beside what knows of none.
-use Rattle.cms_machine.specs.Acts.{Act, Done, bind}
+use Rattle.cms_model.specs.Acts.{Act, Done, bind}
 use Rattle.cms_cards.specs.PunchedCards.{Decks}
 
 -- something is done that leaves the decks

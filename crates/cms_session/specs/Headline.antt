@@ -11,17 +11,17 @@ use Rattle.cms_fields.specs.Moments.{first_moment}
 use Rattle.cms_model.specs.Trees.{image_of}
 use Rattle.cms_model.specs.Minidisks.{State}
 use Rattle.cms_model.specs.Volumes.{disk_of, state_of}
-use Rattle.cms_machine.specs.Slots.{Slot, Settled, state_in, set_of, unit_set, IsAmong}
-use Rattle.cms_machine.specs.Steps.{Outcome, faults_in}
-use Rattle.cms_machine.specs.Acts.{Act}
-use Rattle.cms_machine.specs.Acts as acts
-use Rattle.cms_machine.specs.LawsObjects.{AreDistinct}
-use Rattle.cms_machine.specs.Objects.{Back, Object}
-use Rattle.cms_machine.specs.Traces.{bytes_of, turns_of, last_set, At, AreOnes, Within}
-use Rattle.cms_machine.specs.Feeds.{Fed, Over, Waits, WaitsBehind}
-use Rattle.cms_machine.specs.Points.{Leaves, HasNow, Point}
-use Rattle.cms_machine.specs.Beats.{AreWellOn, Beat, backs, outcomes, pieces}
-use Rattle.cms_machine.specs.Runs.{Broke, Ran, events_of}
+use Rattle.cms_model.specs.Slots.{Slot, Settled, state_in, set_of, unit_set, IsAmong}
+use Rattle.cms_model.specs.Steps.{Outcome, faults_in}
+use Rattle.cms_model.specs.Acts.{Act}
+use Rattle.cms_model.specs.Acts as acts
+use Rattle.cms_model.specs.LawsObjects.{AreDistinct}
+use Rattle.cms_model.specs.Objects.{Back, Object}
+use Rattle.cms_model.specs.Traces.{bytes_of, turns_of, last_set, At, AreOnes, Within}
+use Rattle.cms_model.specs.Feeds.{Fed, Over, Waits, WaitsBehind}
+use Rattle.cms_model.specs.Points.{Leaves, HasNow, Point}
+use Rattle.cms_model.specs.Beats.{AreWellOn, Beat, backs, outcomes, pieces}
+use Rattle.cms_model.specs.Runs.{Broke, Ran, events_of}
 use Rattle.cms_search.specs.Machine.{Machine}
 use Rattle.cms_line.specs.ConsoleState.{Console}
 use Rattle.cms_world.specs.Seen.{Seen}

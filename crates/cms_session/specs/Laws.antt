@@ -2,14 +2,14 @@
 use Rattle.std.specs.Prelude.{◌≡◌, ◌⊎◌, ℕ, List, ◌∷◌, ◌++◌, Some, slice_get}
 use Rattle.cms_journal.specs.Causes.{Rose}
 use Rattle.cms_journal.specs.declared.event.Event.{Event}
-use Rattle.cms_machine.specs.Steps.{faults_in}
+use Rattle.cms_model.specs.Steps.{faults_in}
 use Rattle.cms_model.specs.Minidisks.{State}
-use Rattle.cms_machine.specs.Slots.{Settled}
-use Rattle.cms_machine.specs.Beats.{Asked, Beat, Chain, Dropped}
-use Rattle.cms_machine.specs.LawsObjects.{Answers, AskNot, IsGone}
-use Rattle.cms_machine.specs.Objects.{Back, Object, Reply}
-use Rattle.cms_machine.specs.Points.{Leaves, Point}
-use Rattle.cms_machine.specs.Feeds.{Over}
+use Rattle.cms_model.specs.Slots.{Settled}
+use Rattle.cms_model.specs.Beats.{Asked, Beat, Chain, Dropped}
+use Rattle.cms_model.specs.LawsObjects.{Answers, AskNot, IsGone}
+use Rattle.cms_model.specs.Objects.{Back, Object, Reply}
+use Rattle.cms_model.specs.Points.{Leaves, Point}
+use Rattle.cms_model.specs.Feeds.{Over}
 use Rattle.cms_world.specs.Seen.{Seen}
 use Rattle.cms_session.specs.Headline.{Start, Agrees, Came, Headline, beats_in, behind_beats, run_on, start_point}
 use Rattle.cms_session.specs.Sessions.{status_of}

@@ -1,8 +1,8 @@
 -- What a line comes to: an extension answers it, a command is run, or a procedure begins.
 use Rattle.std.specs.Prelude.{ℕ, pos, negsuc, if◌then◌else◌, List, [], ◌∷◌, Option, Some, None}
 use Rattle.std.specs.Option.{option_and_then}
-use Rattle.cms_machine.specs.Acts.{Act, Done, Out, bind, typed_line}
-use Rattle.cms_machine.specs.Objects.{Object, Start}
+use Rattle.cms_model.specs.Acts.{Act, Done, Out, bind, typed_line}
+use Rattle.cms_model.specs.Objects.{Object, Start}
 use Rattle.cms_line.specs.Messages.{message_text}
 use Rattle.cms_line.specs.Tokens.{tokens_of}
 use Rattle.cms_line.specs.declared.message.Message.TheVariants.{M001}

@@ -1,11 +1,11 @@
 -- The machine: minidisks as lists of named record lists, procedures as lists of lines, the objects that the session was handed, and what a
 -- session does with them. No block occurs here.
 use Rattle.std.specs.Prelude.{ℕ, zero, suc, ℤ, Bool, List, [], None}
-use Rattle.cms_machine.specs.Objects.{Back, Object}
-use Rattle.cms_machine.specs.Steps.{Outcome}
-use Rattle.cms_machine.specs.Items.{items}
-use Rattle.cms_machine.specs.Acts.{Act, Done, bind}
-use Rattle.cms_machine.specs.Feeds.{Fed, feed}
+use Rattle.cms_model.specs.Objects.{Back, Object}
+use Rattle.cms_model.specs.Steps.{Outcome}
+use Rattle.cms_model.specs.Items.{items}
+use Rattle.cms_model.specs.Acts.{Act, Done, bind}
+use Rattle.cms_model.specs.Feeds.{Fed, feed}
 use Rattle.cms_search.specs.Access.{accessing}
 use Rattle.cms_search.specs.Machine.{Machine}
 use Rattle.cms_ext.specs.Extensions.{Desk, desk}

@@ -1,8 +1,8 @@
 -- NUCXDROP and NUCXMAP: the words of the extensions.
 use Rattle.std.specs.Prelude.{ℕ, pos, ⊤, List, remove, Option, Some, None, Result, Ok, Err}
 use Rattle.cms_fields.specs.Steps.{◌>>=◌, ◌>>◌}
-use Rattle.cms_machine.specs.Acts.{Act, Done, Drops, bind}
-use Rattle.cms_machine.specs.Objects.{Object}
+use Rattle.cms_model.specs.Acts.{Act, Done, Drops, bind}
+use Rattle.cms_model.specs.Objects.{Object}
 use Rattle.cms_line.specs.declared.message.Message.TheVariants.{M122}
 use Rattle.cms_line.specs.declared.token.Token.{Token}
 use Rattle.cms_operands.specs.Choices.{without_options}

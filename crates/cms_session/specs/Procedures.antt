@@ -1,8 +1,8 @@
 -- The procedures of a session: a statement of the newest is run in a turn, and what it wants is met.
 use Rattle.std.specs.Prelude.{ℕ, zero, suc, ℤ, pos, ◌+◌, nat_le, if◌then◌else◌, List, [], ◌∷◌, length, Option, Some, None, Ok, Err}
 use Rattle.cms_text.specs.Numbers.{decimal_of}
-use Rattle.cms_machine.specs.Acts.{Act, Done, Out, Turn, bind, typed_line}
-use Rattle.cms_machine.specs.Objects.{Object}
+use Rattle.cms_model.specs.Acts.{Act, Done, Out, Turn, bind, typed_line}
+use Rattle.cms_model.specs.Objects.{Object}
 use Rattle.cms_line.specs.Messages.{message_text}
 use Rattle.cms_line.specs.Stack.{most_lines}
 use Rattle.cms_line.specs.declared.message.Message.TheVariants.{M085}

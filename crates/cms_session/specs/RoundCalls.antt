@@ -1,11 +1,11 @@
 -- What a call of a round does, as a part of the machine's run.
 use Rattle.std.specs.Prelude.{ℕ, ℤ, List, ◌∷◌, length, Option, Some, None}
 use Rattle.cms_line.specs.Tokens.{tokens_of}
-use Rattle.cms_machine.specs.Slots.{Slot}
-use Rattle.cms_machine.specs.Acts.{Act, bind}
-use Rattle.cms_machine.specs.Objects.{Object}
-use Rattle.cms_machine.specs.Items as items
-use Rattle.cms_machine.specs.Items.{Item}
+use Rattle.cms_model.specs.Slots.{Slot}
+use Rattle.cms_model.specs.Acts.{Act, bind}
+use Rattle.cms_model.specs.Objects.{Object}
+use Rattle.cms_model.specs.Items as items
+use Rattle.cms_model.specs.Items.{Item}
 use Rattle.cms_line.specs.declared.message.Message.{Message}
 use Rattle.cms_line.specs.declared.token.Token.{Token}
 use Rattle.cms_search.specs.Calls.{Meaning, course_of, machine_of}

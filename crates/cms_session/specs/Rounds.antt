@@ -1,8 +1,8 @@
 -- A round of a session: a line that CMS took, or a statement of the newest procedure.
 use Rattle.std.specs.Prelude.{ℕ, zero, suc, ℤ, if◌then◌else◌, List, [], ◌∷◌, length, Option, Some, None}
-use Rattle.cms_machine.specs.Items.{Item, Text, Bad, Long, Rest}
-use Rattle.cms_machine.specs.Acts.{Act, Done, Take, Turn, bind}
-use Rattle.cms_machine.specs.Objects.{Object}
+use Rattle.cms_model.specs.Items.{Item, Text, Bad, Long, Rest}
+use Rattle.cms_model.specs.Acts.{Act, Done, Take, Turn, bind}
+use Rattle.cms_model.specs.Objects.{Object}
 use Rattle.cms_line.specs.Tokens.{tokens_of}
 use Rattle.cms_line.specs.declared.message.Message.TheVariants.{M010, M011}
 use Rattle.cms_search.specs.Machine.{Machine, turned, refusal}

@@ -8,12 +8,12 @@ use Rattle.cms_journal.specs.Limits.{most_blocks}
 use Rattle.cms_journal.specs.Journal.{IsAttached, IsBlockSize, MayAdd, may_write}
 use Rattle.cms_journal.specs.Told.{Told}
 use Rattle.cms_model.specs.Volumes.{disk_of}
-use Rattle.cms_machine.specs.Objects.{Object}
-use Rattle.cms_machine.specs.Acts.{Act}
-use Rattle.cms_machine.specs.Acts as acts
-use Rattle.cms_machine.specs.Points.{Point}
-use Rattle.cms_machine.specs.Runs.{Ran, Broke}
-use Rattle.cms_machine.specs.Slots.{Slot}
+use Rattle.cms_model.specs.Objects.{Object}
+use Rattle.cms_model.specs.Acts.{Act}
+use Rattle.cms_model.specs.Acts as acts
+use Rattle.cms_model.specs.Points.{Point}
+use Rattle.cms_model.specs.Runs.{Ran, Broke}
+use Rattle.cms_model.specs.Slots.{Slot}
 use Rattle.cms_disk.specs.declared.unit.UnitInfo.{UnitInfo}
 use Rattle.cms_ext.specs.Extensions.{desk}
 use Rattle.cms_search.specs.Calls.{Holds}

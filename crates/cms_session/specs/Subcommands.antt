@@ -1,8 +1,8 @@
 -- A text that a procedure sends to an extension, by &SUBCOMMAND or as &PRESUME says.
 use Rattle.std.specs.Prelude.{ℕ, List, map, Option, Some, None}
 use Rattle.cms_ebcdic.specs.CodePage.{upper_of}
-use Rattle.cms_machine.specs.Acts.{Act, bind}
-use Rattle.cms_machine.specs.Objects.{Sub}
+use Rattle.cms_model.specs.Acts.{Act, bind}
+use Rattle.cms_model.specs.Objects.{Sub}
 use Rattle.cms_line.specs.declared.message.Message.TheVariants.{M122}
 use Rattle.cms_search.specs.Machine.{refusal}
 use Rattle.cms_ext.specs.Extensions.{Desk, Ended, run_extension}

@@ -5,13 +5,13 @@ ghost use Rattle.cms_fields.specs.Offsets.{IsOffset};
 ghost use Rattle.cms_line.specs.Messages.{message_text};
 ghost use Rattle.cms_line.specs.Tokens.{tokens_of};
 ghost use Rattle.cms_line.specs.declared.message.Message.TheVariants.{M001};
-ghost use Rattle.cms_machine.specs.Acts.{saying, typed_line};
+ghost use Rattle.cms_model.specs.Acts.{saying, typed_line};
 ghost use Rattle.cms_search.specs.Calls.{spot, spot_with, Acts, Does, IsUsable, course_of, said};
 ghost use Rattle.cms_search.specs.declared.state.Course.TheVariants.{Went};
 ghost use Rattle.cms_world.specs.Seen.{seen};
 ghost use Rattle.cms_ext.specs.Calls.{ended_of, run_tree};
 ghost use Rattle.cms_ext.specs.Objects.{HasPlace, objects_of};
-ghost use Rattle.cms_machine.specs.Objects.{Start};
+ghost use Rattle.cms_model.specs.Objects.{Start};
 ghost use Rattle.cms_session.specs.RoundCalls.{command_tree, issue_tree, issued_beside, issued_started, obey_tree, request_tree, take_up_tree};
 ghost use Rattle.cms_session.specs.Lines as spec;
 

@@ -1,7 +1,7 @@
 // NUCXDROP and NUCXMAP.
 ghost use Rattle.std.specs.Prelude.{◌≡◌, pos};
 ghost use Rattle.cms_line.specs.declared.message.Message.TheVariants.{M122};
-ghost use Rattle.cms_machine.specs.Acts.{Done};
+ghost use Rattle.cms_model.specs.Acts.{Done};
 ghost use Rattle.cms_operands.specs.Choices.{AnswersLine};
 ghost use Rattle.cms_search.specs.Calls.{Acts, Does, course_of, refusal_tree, said, spot, spot_with};
 ghost use Rattle.cms_search.specs.Machine.{typing};

@@ -4,7 +4,7 @@ ghost use Rattle.cms_fields.specs.Moments.{is_moment};
 ghost use Rattle.cms_fields.specs.Offsets.{IsOffset};
 ghost use Rattle.cms_line.specs.Messages.{message_text};
 ghost use Rattle.cms_line.specs.declared.message.Message.TheVariants.{M085};
-ghost use Rattle.cms_machine.specs.Acts.{saying, typed_line};
+ghost use Rattle.cms_model.specs.Acts.{saying, typed_line};
 ghost use Rattle.cms_search.specs.Calls.{spot, spot_with, Acts, Does, IsUsable, itself};
 ghost use Rattle.cms_exec.specs.Exec.{stopped_code};
 ghost use Rattle.cms_ext.specs.Objects.{objects_of};

@@ -1,6 +1,6 @@
 -- ECHO: each line that it is given is said back, until an empty one.
 use Rattle.std.specs.Prelude.{pos, [], ◌∷◌}
-use Rattle.cms_machine.specs.Objects.{Content, Reply, Want, Start, Sub, Went, Got, Records, Refused, Say, Ask, Ended}
+use Rattle.cms_model.specs.Objects.{Content, Reply, Want, Start, Sub, Went, Got, Records, Refused, Say, Ask, Ended}
 use Rattle.cms_ext.specs.Exact.{Move}
 
 -- it wants this, and holds what it held

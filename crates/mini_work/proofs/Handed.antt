@@ -6,7 +6,7 @@ use Rattle.cms_journal.specs.Journal.{Journal}
 use Rattle.cms_journal.specs.Told.{Grown, Told, plus, typed}
 use Rattle.cms_journal.proofs.Events.{all_join}
 use Rattle.cms_journal.proofs.Pieces.{grown_same, plus-some, plus_plus, typed-append}
-use Rattle.cms_machine.specs.Beats.{IsTyped}
+use Rattle.cms_model.specs.Beats.{IsTyped}
 use Rattle.cms_model.specs.LawsUpdates.{after, now}
 use Rattle.cms_model.specs.Trees.{Image, image_of}
 use Rattle.cms_model.proofs.SettledUnits.{aside_is_as_before}

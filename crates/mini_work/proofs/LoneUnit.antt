@@ -18,7 +18,7 @@ use Rattle.cms_model.specs.Trees.{image_of}
 use Rattle.cms_model.specs.Volumes.{Disk, Opened, disk_of, open_of, reason, state_from, state_of}
 use Rattle.cms_model.specs.declared.fault.OpenFault.{OpenFault}
 use Rattle.cms_model.proofs.SettledUnits.{untouched_starts}
-use Rattle.cms_machine.specs.Beats.{IsTyped, OnlyTyped}
+use Rattle.cms_model.specs.Beats.{IsTyped, OnlyTyped}
 use Rattle.cms_disk.specs.Disks.{Accessed, IsLeft, IsOn, IsQuiet, disk_on, told_with}
 use Rattle.cms_disk.specs.EmptyMinidisks.{IsSeen}
 use Rattle.cms_disk.specs.declared.fault.AccessFault.{AccessFault}

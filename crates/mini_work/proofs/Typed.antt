@@ -3,7 +3,7 @@ use Rattle.std.proofs.Common.{◌≡◌, ◌∙◌, ℕ, List, [], ◌++◌, ap,
 use Rattle.cms_journal.specs.Told.{Grown, Told, plus}
 use Rattle.cms_journal.proofs.Events.{all_join}
 use Rattle.cms_journal.proofs.Pieces.{plus_plus}
-use Rattle.cms_machine.specs.Beats.{IsTyped}
+use Rattle.cms_model.specs.Beats.{IsTyped}
 use Rattle.cms_line.specs.Typed.{TypedPart, TypedTo}
 use Rattle.mini_work.specs.Output.{OnlyTypes}
 

@@ -3,7 +3,7 @@ use Rattle.std.proofs.Common.{◌≡◌, ℕ, zero, suc, ◌+◌, ◌≤◌, Lis
 use Rattle.std.proofs.lemmas.List.{drop_all}
 use Rattle.std.proofs.lemmas.Option.{same_Some}
 use Rattle.cms_journal.specs.Told.{Told}
-use Rattle.cms_machine.specs.Acts.{typed_line}
+use Rattle.cms_model.specs.Acts.{typed_line}
 use Rattle.cms_line.specs.Typed.{TypedTo}
 use Rattle.cms_line.proofs.TypedLines.{typed_then}
 use Rattle.mini_work.specs.Listing.{typed_lines}

@@ -13,8 +13,8 @@ use Rattle.cms_model.specs.Changes.{Change}
 use Rattle.cms_model.specs.LawsUpdates.{after}
 use Rattle.cms_model.specs.Minidisks.{Minidisk}
 use Rattle.cms_model.specs.Volumes.{Disk, disk_of}
-use Rattle.cms_machine.specs.Beats.{IsTyped, OnlyTyped}
-use Rattle.cms_machine.specs.Steps.{EitherFault, OldFault}
+use Rattle.cms_model.specs.Beats.{IsTyped, OnlyTyped}
+use Rattle.cms_model.specs.Steps.{EitherFault, OldFault}
 use Rattle.cms_held.specs.HeldVolumes.{HeldVolume}
 use Rattle.cms_line.specs.Typed.{TypedPart, TypedTo}
 use Rattle.cms_line.proofs.TypedLines.{typed_none}

@@ -8,7 +8,7 @@ use Rattle.cms_names.specs.declared.name.Name.{Name}
 use Rattle.cms_model.specs.Changes.{Rename}
 use Rattle.cms_model.specs.LawsUpdates.{now}
 use Rattle.cms_model.specs.Minidisks.{File, Minidisk}
-use Rattle.cms_machine.specs.Acts.{typed_line}
+use Rattle.cms_model.specs.Acts.{typed_line}
 use Rattle.cms_held.specs.HeldVolumes.{HeldFile, names_in}
 use Rattle.cms_edf.proofs.Planned.{named_at as named_in}
 use Rattle.cms_edf.specs.FilesTold.{info_of, infos_in}

@@ -8,7 +8,7 @@ use Rattle.cms_fields.specs.declared.time.Stamp.{Stamp}
 use Rattle.cms_model.specs.Minidisks.{Minidisk}
 use Rattle.cms_model.specs.Changes.{Change, Changed, Full, Limited, answer_of}
 use Rattle.cms_model.specs.Volumes.{Disk}
-use Rattle.cms_machine.specs.Steps.{Good, Outcome}
+use Rattle.cms_model.specs.Steps.{Good, Outcome}
 use Rattle.cms_line.specs.Typed.{TypedPart, TypedTo}
 use Rattle.cms_disk.specs.Changes.{Changes, IsMissing, IsTaken}
 use Rattle.cms_disk.specs.Disks.{Accessed, IsReadable}

@@ -5,7 +5,7 @@ use Rattle.cms_journal.specs.Told.{Told}
 use Rattle.cms_names.specs.declared.name.Name.{Name}
 use Rattle.cms_model.specs.Changes.{Drop, Rename, file_named}
 use Rattle.cms_model.specs.Minidisks.{File, Minidisk}
-use Rattle.cms_machine.specs.Acts.{typed_line}
+use Rattle.cms_model.specs.Acts.{typed_line}
 use Rattle.cms_listfile.specs.Lines.{info_of}
 use Rattle.cms_disk.specs.Disks.{Accessed}
 use Rattle.mini_words.specs.declared.names.NamePattern.{NamePattern}

@@ -5,7 +5,7 @@ use Rattle.cms_names.specs.declared.name.Format.{Format}
 use Rattle.cms_names.specs.declared.name.Format.TheVariants.{F, V}
 use Rattle.cms_text.specs.Numbers.{decimal_of, two_digits}
 use Rattle.cms_text.specs.Texts.{coded, without_trailing_blanks}
-use Rattle.cms_machine.specs.Acts.{typed_line}
+use Rattle.cms_model.specs.Acts.{typed_line}
 use Rattle.cms_held.specs.HeldVolumes.{HeldVolume}
 use Rattle.cms_edf.specs.FilesTold.{space_of}
 use Rattle.cms_edf.specs.declared.held.FileInfo.{FileInfo}

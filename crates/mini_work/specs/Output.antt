@@ -3,8 +3,8 @@ use Rattle.std.specs.Prelude.{◌≡◌, ℕ, List, ◌∷◌, ◌++◌, map}
 use Rattle.cms_journal.specs.Told.{Told, plus}
 use Rattle.cms_journal.specs.declared.event.Event.{Event}
 use Rattle.cms_ebcdic.specs.CodePage.{host_of}
-use Rattle.cms_machine.specs.Acts.{typed_line}
-use Rattle.cms_machine.specs.Beats.{OnlyTyped}
+use Rattle.cms_model.specs.Acts.{typed_line}
+use Rattle.cms_model.specs.Beats.{OnlyTyped}
 use Rattle.cms_names.specs.declared.name.Name.{Name}
 
 -- a name in EBCDIC, FN.FT

@@ -2,7 +2,7 @@
 ghost use Rattle.std.specs.Prelude.{◌≡◌, ◌++◌, ℕ, map, IfOk};
 ghost use Rattle.cms_journal.specs.declared.event.Access.TheVariants.{ReadOnly};
 ghost use Rattle.cms_edf.specs.FilesTold.{infos_in};
-ghost use Rattle.cms_machine.specs.Acts.{typed_line};
+ghost use Rattle.cms_model.specs.Acts.{typed_line};
 ghost use Rattle.cms_search.specs.Texts.{spaced};
 ghost use Rattle.cms_text.specs.Numbers.{decimal_of};
 ghost use Rattle.mini_work.specs.Causes.{HasEnd, counts, on_world};

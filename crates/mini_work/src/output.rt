@@ -4,7 +4,7 @@ ghost use Rattle.std.specs.String.{string_bytes};
 ghost use Rattle.cms_ebcdic.specs.CodePage.{host_of};
 ghost use Rattle.cms_journal.specs.Told.{Grown};
 ghost use Rattle.cms_line.specs.Typed.{TypedPart, TypedTo};
-ghost use Rattle.cms_machine.specs.Acts.{typed_line};
+ghost use Rattle.cms_model.specs.Acts.{typed_line};
 ghost use Rattle.cms_disk.specs.Disks.{Accessed};
 ghost use Rattle.mini_work.specs.Causes.{Counts, HasCause, HasEnd, is_failure, on_host, on_world};
 ghost use Rattle.mini_work.specs.Changes.{IsTold};

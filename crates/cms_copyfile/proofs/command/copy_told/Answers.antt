@@ -4,7 +4,7 @@ use Rattle.cms_search.specs.Calls.{machine_of, spot}
 use Rattle.cms_search.proofs.StateCalls.{acts_starved}
 use Rattle.cms_files.specs.Updates.{telling}
 use Rattle.cms_files.proofs.Updates.{told_behind, told_never}
-use Rattle.cms_machine.specs.Acts.{bind}
+use Rattle.cms_model.specs.Acts.{bind}
 use Rattle.cms_copyfile.specs.Copyfile.{copy_erased, copy_told, with_copying}
 use Rattle.cms_copyfile.specs.Shown.{copy_text}
 use Rattle.cms_copyfile.proofs.FilesCopied.{acts_copying, shown_input, shown_output, told_so}

@@ -1,7 +1,7 @@
 use Rattle.std.proofs.Common.{◌≡◌, ◌∙◌, ℕ, List, [], ◌∷◌, Result, ap, subst, sym}
 use Rattle.std.specs.Prelude.{⊤}
 use Rattle.cms_names.specs.declared.name.Name.{Name}
-use Rattle.cms_machine.specs.Slots.{Slot}
+use Rattle.cms_model.specs.Slots.{Slot}
 use Rattle.cms_model.specs.Changes.{Change}
 use Rattle.cms_search.specs.Calls.{Comes, machine_of, spot}
 use Rattle.cms_search.specs.DeviceSteps.{failing}

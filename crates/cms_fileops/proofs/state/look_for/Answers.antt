@@ -1,6 +1,6 @@
 use Rattle.std.proofs.Common.{◌∙◌, refl}
 use Rattle.std.specs.Prelude.{pos}
-use Rattle.cms_machine.specs.Acts.{Done}
+use Rattle.cms_model.specs.Acts.{Done}
 use Rattle.cms_search.specs.Calls.{course_of, machine_of, spot}
 use Rattle.cms_search.specs.Machine.{Went}
 use Rattle.cms_search.specs.Searches.{look_up, shelves_in}

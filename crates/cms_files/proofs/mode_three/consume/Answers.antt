@@ -1,5 +1,5 @@
 use Rattle.std.proofs.Common.{refl, sym}
-use Rattle.cms_machine.specs.Acts.{Done}
+use Rattle.cms_model.specs.Acts.{Done}
 use Rattle.cms_search.specs.Calls.{machine_of, spot}
 use Rattle.cms_search.proofs.Acts.{acts_done, comes_same}
 use Rattle.cms_search.proofs.LetterDisks.{holds_shows}

@@ -1,6 +1,6 @@
 use Rattle.std.proofs.Common.{◌≡◌, ◌∙◌, true, false, rules, refl, sym}
 use Rattle.cms_model.specs.Changes.{Drop}
-use Rattle.cms_machine.specs.Acts.{Done}
+use Rattle.cms_model.specs.Acts.{Done}
 use Rattle.cms_search.specs.Calls.{machine_of, spot}
 use Rattle.cms_search.proofs.Acts.{acts_done, acts_same, comes_same}
 use Rattle.cms_search.proofs.LetterDisks.{holds_shows}

@@ -1,6 +1,6 @@
 use Rattle.std.proofs.Common.{◌≡◌, ◌∙◌, [], List, ℕ, Some, ap, sym, arith, length, drop, ◌+◌}
 use Rattle.std.proofs.lemmas.Grind.{common_steps}
-use Rattle.cms_machine.specs.Items.{Item, Text, coded_line}
+use Rattle.cms_model.specs.Items.{Item, Text, coded_line}
 use Rattle.cms_line.proofs.CodedLines.{prepend, prepend_none, coded_more, bad_line, text_line}
 use Rattle.cms_line.proofs.console.line_of.Goals as goal
 

@@ -1,5 +1,5 @@
 use Rattle.std.proofs.Common.{◌≡◌, drop, length}
-use Rattle.cms_machine.specs.Items.{coded_line}
+use Rattle.cms_model.specs.Items.{coded_line}
 use Rattle.cms_line.proofs.CodedLines.{prepend}
 use Rattle.cms_line.proofs.console.line_of.Given as goal
 

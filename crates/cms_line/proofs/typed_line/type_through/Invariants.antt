@@ -1,6 +1,6 @@
 use Rattle.std.proofs.Common.{◌≡◌, ◌≤◌, length}
 use Rattle.cms_line.specs.Typed.{TypedTo}
-use Rattle.cms_machine.specs.Acts.{typed_line}
+use Rattle.cms_model.specs.Acts.{typed_line}
 use Rattle.cms_line.proofs.typed_line.type_through.Given as goal
 
 abbrev pub invariant-loop-rest : goal.invariant-loop-rest

@@ -1,11 +1,11 @@
 use Rattle.std.proofs.Common.{◌≡◌, ◌⊎◌, inl, inr, ⊎_elim, ℕ, ◌+◌, ◌-◌, ◌^◌, ◌<◌, ◌≤◌, min, List, refl, sym, ap, ◌∙◌, arith}
-use Rattle.cms_machine.proofs.Lists.{lt_or_le}
+use Rattle.cms_model.proofs.Lists.{lt_or_le}
 use Rattle.cms_journal.specs.Causes.{Rose, Counted}
 use Rattle.cms_journal.specs.declared.event.Event.{Event}
-use Rattle.cms_machine.specs.Objects.{Back}
-use Rattle.cms_machine.specs.Slots.{Slot, Settled}
-use Rattle.cms_machine.specs.Steps.{Outcome}
-use Rattle.cms_machine.specs.Feeds.{Fed, Over}
+use Rattle.cms_model.specs.Objects.{Back}
+use Rattle.cms_model.specs.Slots.{Slot, Settled}
+use Rattle.cms_model.specs.Steps.{Outcome}
+use Rattle.cms_model.specs.Feeds.{Fed, Over}
 use Rattle.cms_session.specs.Headline.{Start, Agrees, Came, EndsAs, run_on}
 use Rattle.cms_session.specs.Sessions.{status_of}
 use Rattle.cms_session.specs.declared.state.Finish.{Finish}

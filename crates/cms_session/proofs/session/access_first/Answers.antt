@@ -1,6 +1,6 @@
 use Rattle.std.proofs.lemmas.Result.{err_from_is_err_and}
 use Rattle.std.proofs.Common.{None}
-use Rattle.cms_machine.specs.Acts.{Done}
+use Rattle.cms_model.specs.Acts.{Done}
 use Rattle.cms_search.specs.Access.{accessing_tree}
 use Rattle.cms_search.specs.Calls.{beside, itself}
 use Rattle.cms_search.proofs.Acts.{acts_done, acts_stop, comes_in}

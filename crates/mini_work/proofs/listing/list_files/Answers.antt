@@ -4,7 +4,7 @@ use Rattle.std.proofs.lemmas.List.{length-map}
 use Rattle.std.proofs.lemmas.Result.{err_from_is_err_and}
 use Rattle.cms_edf.specs.FilesTold.{info_of, infos_in}
 use Rattle.cms_edf.specs.declared.held.FileInfo.{FileInfo}
-use Rattle.cms_machine.specs.Acts.{typed_line}
+use Rattle.cms_model.specs.Acts.{typed_line}
 use Rattle.mini_work.specs.Changes.{IsTold}
 use Rattle.mini_work.specs.CommandActs.{Continues, Goes}
 use Rattle.mini_work.specs.Listing.{file_line, is_listed}

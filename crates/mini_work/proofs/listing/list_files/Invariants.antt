@@ -1,7 +1,7 @@
 use Rattle.mini_work.specs.Causes.{HasEnd, on_world}
 use Rattle.std.proofs.Common.{take, Ok, ℕ}
 use Rattle.cms_edf.specs.FilesTold.{infos_in}
-use Rattle.cms_machine.specs.Acts.{typed_line}
+use Rattle.cms_model.specs.Acts.{typed_line}
 use Rattle.mini_work.specs.Changes.{IsTold}
 use Rattle.mini_work.specs.CommandActs.{Continues, Goes}
 use Rattle.mini_work.specs.Listing.{file_line, is_listed}

@@ -6,7 +6,7 @@ use Rattle.cms_names.specs.declared.name.Name.{Name}
 use Rattle.mini_work.specs.ChosenFiles.{idle_status}
 use Rattle.cms_edf.specs.FilesTold.{infos_in}
 use Rattle.cms_edf.specs.declared.held.FileInfo.{FileInfo}
-use Rattle.cms_machine.specs.Acts.{typed_line}
+use Rattle.cms_model.specs.Acts.{typed_line}
 use Rattle.mini_work.specs.Changes.{IsTold}
 use Rattle.mini_work.specs.CommandActs.{Goes}
 use Rattle.mini_work.specs.Commands.{IsListing}

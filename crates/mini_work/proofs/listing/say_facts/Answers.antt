@@ -4,7 +4,7 @@ use Rattle.std.proofs.lemmas.Grind.{common_steps}
 use Rattle.std.proofs.lemmas.Option.{slice_get_read}
 use Rattle.cms_line.proofs.TypedLines.{typed_none}
 use Rattle.cms_line.specs.Typed.{TypedTo}
-use Rattle.cms_machine.specs.Acts.{typed_line}
+use Rattle.cms_model.specs.Acts.{typed_line}
 use Rattle.mini_work.specs.Listing.{typed_lines}
 use Rattle.mini_work.proofs.Typed.{types_none, types_part, types_then, types_to}
 use Rattle.mini_work.proofs.TypedLines.{items_there, lines_done, lines_next}

@@ -1,5 +1,5 @@
 use Rattle.std.proofs.lemmas.Result.{err_from_is_err_and}
-use Rattle.cms_machine.specs.Acts.{typed_line}
+use Rattle.cms_model.specs.Acts.{typed_line}
 use Rattle.mini_work.specs.Changes.{IsTold}
 use Rattle.mini_work.proofs.PartsJoined.{cut_any, grown_part, grown_typed, said_on, typing_cut}
 use Rattle.mini_work.proofs.Caused.{end_done, end_fails, later_same}

@@ -1,6 +1,6 @@
 use Rattle.std.proofs.Common.{◌∙◌, ℕ, List, subst}
 use Rattle.std.proofs.lemmas.Result.{err_from_is_err_and}
-use Rattle.cms_machine.specs.Acts.{typed_line}
+use Rattle.cms_model.specs.Acts.{typed_line}
 use Rattle.mini_work.specs.Changes.{IsTold}
 use Rattle.mini_work.specs.CommandActs.{Continues}
 use Rattle.mini_work.specs.Output.{name_line}

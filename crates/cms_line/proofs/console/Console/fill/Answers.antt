@@ -1,6 +1,6 @@
 use Rattle.std.proofs.Common.{◌≡◌, ◌∙◌, ◌+◌, ◌-◌, ◌≤◌, List, ℕ, length, take, ap, sym, arith, false, refl, subst}
 use Rattle.std.proofs.lemmas.Grind.{common_steps}
-use Rattle.cms_machine.specs.Items.{Unread}
+use Rattle.cms_model.specs.Items.{Unread}
 use Rattle.cms_line.proofs.ConsoleReads.{over_read}
 use Rattle.cms_line.proofs.ConsoleViews.{filled_items, rest_length, kept_items, as_long, read_fits, room_left, at_least_none, fewer_than_held}
 use Rattle.cms_line.specs.ConsoleState.{Console, state}

@@ -1,6 +1,6 @@
 use Rattle.std.proofs.Common.{◌≡◌, ◌∙◌, ◌<◌, true, false, [], Some, None, length, ap, sym}
 use Rattle.std.specs.List.{position}
-use Rattle.cms_machine.proofs.ItemsParts.{feed}
+use Rattle.cms_model.proofs.ItemsParts.{feed}
 use Rattle.cms_line.proofs.ConsoleTaken.{at_state, line_ends, not_yet, at_end, nothing_left, line_is_last, empty_is, some_is}
 use Rattle.cms_line.proofs.console.Console.front.Goals as goal
 

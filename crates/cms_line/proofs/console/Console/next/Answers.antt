@@ -1,5 +1,5 @@
 use Rattle.std.proofs.Common.{◌∙◌, ap, arith, refl, false, ◌≤◌, Err, length, sym, subst}
-use Rattle.cms_machine.specs.Items.{items}
+use Rattle.cms_model.specs.Items.{items}
 use Rattle.cms_line.proofs.ConsoleReads.{stayed_none, took_line, stayed_same, stayed_filled, stayed_passed, took_end}
 use Rattle.cms_line.specs.ConsoleState.{Console}
 use Rattle.cms_line.specs.declared.console.LineFault.{LineFault}

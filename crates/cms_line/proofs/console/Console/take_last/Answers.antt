@@ -1,5 +1,5 @@
 use Rattle.std.proofs.Common.{◌∙◌, List, ℕ, Some, length, ap, arith}
-use Rattle.cms_machine.specs.Items.{short_line}
+use Rattle.cms_model.specs.Items.{short_line}
 use Rattle.cms_line.proofs.ConsoleTaken.{taken_last, last_is_short}
 use Rattle.cms_line.proofs.console.Console.take_last.Goals as goal
 

@@ -1,5 +1,5 @@
 use Rattle.std.proofs.Common.{◌∙◌, ◌≡◌, List, ℕ, length, take, ap, arith}
-use Rattle.cms_machine.specs.Items.{without_return}
+use Rattle.cms_model.specs.Items.{without_return}
 use Rattle.cms_line.proofs.ConsoleTaken.{taken_line, line_short}
 use Rattle.cms_line.proofs.console.Console.take_line.Goals as goal
 
