@@ -13,7 +13,7 @@ use Rattle.cms_fields.specs.declared.time.Stamp.{Stamp}
 use Rattle.cms_names.specs.declared.name.Format.{Format}
 use Rattle.cms_names.specs.declared.name.Format.TheVariants.{F, V}
 use Rattle.cms_names.specs.declared.name.Name.{Name}
-use Rattle.cms_draft.specs.declared.shape.DraftShape.{DraftShape}
+use Rattle.cms_held.specs.declared.shape.DraftShape.{DraftShape}
 use Rattle.cms_disk.specs.Additions.{CanExtend, HaveShapeBehind, MayExtend}
 use Rattle.cms_disk.specs.Disks.{IsFileInfo, place_of}
 use Rattle.cms_held.specs.Growths.{length_with}

@@ -13,7 +13,7 @@ use Rattle.cms_model.specs.Acts.{Act, Does, bind}
 use Rattle.cms_model.specs.Runs.{Ran}
 use Rattle.cms_model.specs.Slots.{Settled, Slot}
 use Rattle.cms_model.specs.Steps.{Get, OldFault, is_relabel}
-use Rattle.cms_draft.specs.declared.shape.DraftShape.{DraftShape}
+use Rattle.cms_held.specs.declared.shape.DraftShape.{DraftShape}
 use Rattle.cms_line.specs.declared.token.Token.{Token}
 use Rattle.cms_line.specs.ConsoleState.{Console}
 use Rattle.cms_disk.specs.Changes.{Appends}

@@ -20,7 +20,7 @@ use Rattle.cms_model.specs.Trees.{Image}
 use Rattle.cms_model.specs.Volumes.{Disk}
 use Rattle.cms_model.proofs.Members.{agree_back}
 use Rattle.cms_held.specs.Drafts.{Front}
-use Rattle.cms_draft.specs.FileWriters.{Drafts}
+use Rattle.cms_held.specs.FileWriters.{Drafts}
 use Rattle.cms_disk.specs.Cursors.{HandsOut, HasLeft, Cursor, SameFile, text_of}
 use Rattle.cms_disk.specs.Disks.{Accessed}
 use Rattle.cms_disk.specs.Drafts.{GoesOn, IsGivenUp, WritesAside}

@@ -7,10 +7,10 @@ use Rattle.std.proofs.lemmas.List.Elements.{All-head, All-tail}
 use Rattle.cms_names.specs.declared.name.Format.{Format}
 use Rattle.cms_model.specs.Records.{Fits, stored}
 use Rattle.cms_model.proofs.Records.{stored_append}
-use Rattle.cms_draft.specs.BlockWriters.{came}
+use Rattle.cms_held.specs.BlockWriters.{came}
 use Rattle.cms_held.specs.Drafts.{Front}
-use Rattle.cms_draft.specs.FileWriters.{Drafts}
-use Rattle.cms_draft.specs.declared.shape.DraftShape.{DraftShape}
+use Rattle.cms_held.specs.FileWriters.{Drafts}
+use Rattle.cms_held.specs.declared.shape.DraftShape.{DraftShape}
 use Rattle.cms_edf.specs.FileDrafts.{Draft}
 use Rattle.cms_copyfile.specs.Puts.{ComesNext}
 

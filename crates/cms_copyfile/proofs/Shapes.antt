@@ -6,7 +6,7 @@ use Rattle.cms_names.specs.declared.name.Name.{Name}
 use Rattle.cms_fields.specs.Stamps.{is_stamp}
 use Rattle.cms_fields.specs.declared.time.Stamp.{Stamp}
 use Rattle.cms_model.specs.Records.{length_of}
-use Rattle.cms_draft.specs.declared.shape.DraftShape.{DraftShape}
+use Rattle.cms_held.specs.declared.shape.DraftShape.{DraftShape}
 use Rattle.cms_edf.specs.FileDrafts.{CanDraft}
 use Rattle.cms_disk.specs.Drafts as drafts
 use Rattle.cms_disk.specs.Drafts.{HaveCounts}

@@ -15,10 +15,10 @@ use Rattle.cms_model.specs.Beats.{written_count}
 use Rattle.cms_model.specs.LawsUpdates.{now as now_of}
 use Rattle.cms_model.specs.Minidisks.{Minidisk}
 use Rattle.cms_model.specs.Steps.{MayPut, OldFault, ReadFault, is_relabel, put_syncs}
-use Rattle.cms_draft.specs.BlockWriters.{CanWrite, came}
+use Rattle.cms_held.specs.BlockWriters.{CanWrite, came}
 use Rattle.cms_held.specs.Drafts.{Front, stored_on}
-use Rattle.cms_draft.specs.FileWriters.{FileWriter, Drafts, HaveShape}
-use Rattle.cms_draft.specs.declared.shape.DraftShape.{DraftShape}
+use Rattle.cms_held.specs.FileWriters.{FileWriter, Drafts, HaveShape}
+use Rattle.cms_held.specs.declared.shape.DraftShape.{DraftShape}
 use Rattle.cms_world.specs.Seen.{ChangesUnits, Seen}
 use Rattle.cms_edf.proofs.Committed.{can_write}
 use Rattle.cms_edf.specs.FileDrafts.{CanDraft, Draft, IsSomeDraft}

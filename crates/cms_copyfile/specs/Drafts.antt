@@ -8,8 +8,8 @@ use Rattle.cms_fields.specs.declared.time.Stamp.{Stamp}
 use Rattle.cms_model.specs.Changes.{Add, Change, Changed, Put, answer_of, changed, file_named}
 use Rattle.cms_model.specs.Minidisks.{File, Minidisk}
 use Rattle.cms_model.specs.Records.{length_of}
-use Rattle.cms_draft.specs.FileWriters.{HaveShape}
-use Rattle.cms_draft.specs.declared.shape.DraftShape.{DraftShape}
+use Rattle.cms_held.specs.FileWriters.{HaveShape}
+use Rattle.cms_held.specs.declared.shape.DraftShape.{DraftShape}
 use Rattle.cms_held.specs.HeldVolumes.{HeldVolume}
 use Rattle.cms_world.specs.Seen.{OnlyReads, Seen}
 use Rattle.cms_edf.specs.FileDrafts.{CanDraft, Draft}

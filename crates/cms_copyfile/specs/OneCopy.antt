@@ -1,6 +1,6 @@
 -- One file that is copied, as its records were measured.
 use Rattle.std.specs.Prelude.{◌≡◌, ℕ, List, All}
-use Rattle.cms_draft.specs.declared.shape.DraftShape.{DraftShape}
+use Rattle.cms_held.specs.declared.shape.DraftShape.{DraftShape}
 use Rattle.cms_model.specs.Slots.{Slot}
 use Rattle.cms_model.specs.Records.{Fits}
 use Rattle.cms_search.specs.Calls.{Spot, holds, machine_of}

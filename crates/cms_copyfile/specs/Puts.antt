@@ -1,7 +1,7 @@
 -- A record that is put behind those of a draft.
 use Rattle.std.specs.Prelude.{ℕ, ◌+◌, ◌<◌, ◌≤◌, List, [], ◌∷◌, length}
 use Rattle.cms_model.specs.Records.{Fits, stored}
-use Rattle.cms_draft.specs.BlockWriters.{came}
+use Rattle.cms_held.specs.BlockWriters.{came}
 use Rattle.cms_edf.specs.FileDrafts.{Draft}
 
 -- it may come next: a record is still to be put, and it fits the file and the bytes that are to come

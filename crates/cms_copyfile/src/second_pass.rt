@@ -5,7 +5,7 @@ ghost use Rattle.cms_journal.specs.Journal.{HasBlocks};
 ghost use Rattle.cms_journal.specs.Told.{Told};
 ghost use Rattle.cms_fields.specs.Limits.{longest_record};
 ghost use Rattle.cms_model.specs.Minidisks as minidisks;
-ghost use Rattle.cms_draft.specs.BlockWriters.{CanWrite};
+ghost use Rattle.cms_held.specs.BlockWriters.{CanWrite};
 ghost use Rattle.cms_fields.specs.declared.time.Stamp as stamps;
 ghost use Rattle.cms_model.specs.Changes as model;
 ghost use Rattle.cms_disk.specs.Disks.{Accessed};

@@ -25,7 +25,7 @@ use Rattle.cms_held.specs.Puts.{answer_put, limit_put}
 use Rattle.cms_held.specs.Renewals.{made_at, needed}
 use Rattle.cms_held.proofs.AddAnswered.{add_is_answered}
 use Rattle.cms_held.proofs.AddCarried.{leaves_are}
-use Rattle.cms_draft.specs.declared.shape.DraftShape.{DraftShape}
+use Rattle.cms_held.specs.declared.shape.DraftShape.{DraftShape}
 use Rattle.cms_edf.specs.FileDrafts.{Draft}
 use Rattle.cms_edf.specs.FilesTold.{info_of}
 use Rattle.cms_edf.specs.Growths.{IsFileOf, IsMoreFor, IsMoreRefused, need_more}

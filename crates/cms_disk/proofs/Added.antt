@@ -13,7 +13,7 @@ use Rattle.cms_model.specs.Changes.{Add, Answer, Change, Changed, Full, Limited,
 use Rattle.cms_model.specs.Slots.{Settled, Slot, set_of}
 use Rattle.cms_model.specs.Steps.{MayPut, ReadFault, after_put, put_syncs}
 use Rattle.cms_model.specs.declared.file.FileData.{FileData}
-use Rattle.cms_draft.specs.declared.shape.DraftShape.{DraftShape}
+use Rattle.cms_held.specs.declared.shape.DraftShape.{DraftShape}
 use Rattle.cms_disk.specs.Additions.{HasRoomFor, IsAddFault, IsMoreFault, IsNotExtended}
 use Rattle.cms_disk.specs.Changes.{Alters, Appends, ChangesDisk, IsDevices, Unread}
 use Rattle.cms_disk.specs.CrashStates.{CoversOn, LeavesOn}

@@ -11,7 +11,7 @@ use Rattle.cms_map.specs.Bits.{free_blocks}
 use Rattle.cms_held.specs.Kept.{Keeps}
 use Rattle.cms_held.specs.Puts.{answer_put, count_put, limit_put, need_put}
 use Rattle.cms_held.proofs.PutAsides.{put_is_answered}
-use Rattle.cms_draft.specs.declared.shape.DraftShape.{DraftShape}
+use Rattle.cms_held.specs.declared.shape.DraftShape.{DraftShape}
 use Rattle.cms_edf.specs.FileDrafts.{IsRefused}
 use Rattle.cms_edf.specs.declared.allotment.PlanFault.{PlanFault}
 use Rattle.cms_edf.specs.declared.allotment.PlanFault.TheVariants as unplanned

@@ -29,10 +29,10 @@ use Rattle.cms_held.specs.Renewals.{blocks_in}
 use Rattle.cms_held.proofs.DraftBlocks.{none_written}
 use Rattle.cms_held.proofs.DraftOwn.{own_among}
 use Rattle.cms_held.proofs.PutAsides.{free_is_aside}
-use Rattle.cms_draft.specs.BlockWriters.{AddsOwnBlocks, Stops, Wrote, came, its_blocks, written_with}
-use Rattle.cms_draft.specs.FileWriters.{FileWriter, Drafts, IsDrafting, IsFresh, Puts, marks_in, start_in}
-use Rattle.cms_draft.proofs.FilePuts.{stored_long}
-use Rattle.cms_draft.specs.declared.shape.DraftShape.{DraftShape}
+use Rattle.cms_held.specs.BlockWriters.{AddsOwnBlocks, Stops, Wrote, came, its_blocks, written_with}
+use Rattle.cms_held.specs.FileWriters.{FileWriter, Drafts, IsDrafting, IsFresh, Puts, marks_in, start_in}
+use Rattle.cms_held.proofs.FilePuts.{stored_long}
+use Rattle.cms_held.specs.declared.shape.DraftShape.{DraftShape}
 use Rattle.cms_edf.specs.FileDrafts.{CommitEvents, Commits, DraftStands, Draft, IsCommitted, IsCommittedAt, IsDraftFor, IsLeft, IsSomeDraft, LeadsToFile, MakesChange, commit_writes, file_for, put_in, put_writes, tree_of}
 use Rattle.cms_edf.specs.Growths.{IsFrontOf, IsMoreFor}
 use Rattle.cms_edf.specs.declared.doubt.Doubt.{Doubt}

@@ -41,10 +41,10 @@ use Rattle.cms_held.proofs.DraftOwn.{own_all}
 use Rattle.cms_held.proofs.Drafted.{fan_is}
 use Rattle.cms_held.proofs.GrownBlocks.{own_is_fresh}
 use Rattle.cms_held.proofs.SharedBlocks.{fresh_is_counted}
-use Rattle.cms_draft.specs.BlockWriters.{its_blocks, written_with}
-use Rattle.cms_draft.specs.FileWriters.{FileWriter, Drafts, IsDrafting, marks_in}
-use Rattle.cms_draft.specs.declared.block_writer.BlockWriter.{BlockWriter}
-use Rattle.cms_draft.specs.declared.shape.DraftShape.{DraftShape}
+use Rattle.cms_held.specs.BlockWriters.{its_blocks, written_with}
+use Rattle.cms_held.specs.FileWriters.{FileWriter, Drafts, IsDrafting, marks_in}
+use Rattle.cms_held.specs.declared.block_writer.BlockWriter.{BlockWriter}
+use Rattle.cms_held.specs.declared.shape.DraftShape.{DraftShape}
 use Rattle.cms_edf.specs.FileDrafts.{Draft, tree_of}
 use Rattle.cms_edf.specs.Growths.{IsGrowthPlanned, IsMoreFor, kept_in}
 use Rattle.cms_edf.proofs.DraftPut.{plan_of}

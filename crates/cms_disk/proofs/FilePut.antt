@@ -25,8 +25,8 @@ use Rattle.cms_held.specs.HeldVolumes.{HeldFile, HeldTree, HeldVolume}
 use Rattle.cms_held.specs.Renewals.{Edit, renewed}
 use Rattle.cms_held.proofs.Fronts.{if_err}
 use Rattle.cms_world.specs.Seen.{Seen}
-use Rattle.cms_draft.specs.FileWriters.{FileWriter, HaveShape, IsFresh, start_in}
-use Rattle.cms_draft.specs.declared.shape.DraftShape.{DraftShape}
+use Rattle.cms_held.specs.FileWriters.{FileWriter, HaveShape, IsFresh, start_in}
+use Rattle.cms_held.specs.declared.shape.DraftShape.{DraftShape}
 use Rattle.cms_disk.specs.CrashStates.{CoversOn}
 use Rattle.cms_disk.specs.Changes.{Alters, Changes, ChangesDisk, HasState, IsWholeAt, IsDevices, IsPutIn, Kept}
 use Rattle.cms_disk.specs.Disks.{Accessed, place_of}

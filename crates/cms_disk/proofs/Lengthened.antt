@@ -6,7 +6,7 @@ use Rattle.cms_names.specs.declared.name.Format.TheVariants.{F, V}
 use Rattle.cms_model.specs.Records.{IsValid}
 use Rattle.cms_model.specs.declared.file.FileData.{FileData}
 use Rattle.cms_held.specs.Kept.{IsSized}
-use Rattle.cms_draft.specs.declared.shape.DraftShape.{DraftShape}
+use Rattle.cms_held.specs.declared.shape.DraftShape.{DraftShape}
 use Rattle.cms_edf.specs.declared.held.FileInfo.{FileInfo}
 use Rattle.cms_edf.proofs.DraftPlanned.{some_bytes}
 use Rattle.cms_disk.specs.Additions.{CanExtend, FitsInfo, shape_with}

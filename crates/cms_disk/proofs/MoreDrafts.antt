@@ -30,9 +30,9 @@ use Rattle.cms_held.specs.Kept.{Keeps}
 use Rattle.cms_held.specs.HeldVolumes.{HeldFile, HeldVolume}
 use Rattle.cms_held.specs.Systems.{HasWritten}
 use Rattle.cms_held.proofs.DraftBlocks.{none_written}
-use Rattle.cms_draft.specs.BegunFiles.{HaveShapeOn}
-use Rattle.cms_draft.specs.FileWriters.{FileWriter, Drafts, marks_in}
-use Rattle.cms_draft.specs.declared.shape.DraftShape.{DraftShape}
+use Rattle.cms_held.specs.BegunFiles.{HaveShapeOn}
+use Rattle.cms_held.specs.FileWriters.{FileWriter, Drafts, marks_in}
+use Rattle.cms_held.specs.declared.shape.DraftShape.{DraftShape}
 use Rattle.cms_edf.specs.FileDrafts.{Draft, tree_of}
 use Rattle.cms_edf.specs.FilesTold.{info_of, infos_in, stored_in}
 use Rattle.cms_edf.specs.Growths.{CanGrow, IsBehind, IsFileOf, IsFrontOf, IsMoreFor, kept_in}

@@ -21,8 +21,8 @@ use Rattle.cms_model.proofs.Records.{stored_append}
 use Rattle.cms_held.specs.Drafts.{Front}
 use Rattle.cms_held.specs.HeldVolumes.{HeldFile, HeldTree, HeldVolume}
 use Rattle.cms_held.specs.Systems.{Systems}
-use Rattle.cms_draft.specs.BlockWriters.{IsSame, came}
-use Rattle.cms_draft.specs.declared.shape.DraftShape.{DraftShape}
+use Rattle.cms_held.specs.BlockWriters.{IsSame, came}
+use Rattle.cms_held.specs.declared.shape.DraftShape.{DraftShape}
 use Rattle.cms_edf.specs.FileDrafts.{Draft, IsDraftFor, IsSomeDraft, tree_of}
 use Rattle.cms_edf.specs.Growths.{IsFrontOf, IsMoreFor}
 use Rattle.cms_edf.proofs.DraftPut.{more_is_some, more_still, new_is_some, new_still, planned_still}

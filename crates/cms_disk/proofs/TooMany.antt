@@ -14,7 +14,7 @@ use Rattle.cms_model.specs.declared.file.FileData.{FileData}
 use Rattle.cms_held.specs.HeldVolumes.{HeldVolume}
 use Rattle.cms_held.specs.Kept.{Keeps}
 use Rattle.cms_held.specs.Puts.{limit_put}
-use Rattle.cms_draft.specs.declared.shape.DraftShape.{DraftShape}
+use Rattle.cms_held.specs.declared.shape.DraftShape.{DraftShape}
 use Rattle.cms_edf.specs.FilesTold.{info_of, infos_in}
 use Rattle.cms_edf.specs.Growths.{IsFileOf}
 use Rattle.cms_edf.specs.declared.growth.MoreFault.TheVariants as refused

@@ -13,9 +13,9 @@ use Rattle.cms_map.specs.Bits.{free_blocks}
 use Rattle.cms_held.specs.Growths.{length_with}
 use Rattle.cms_held.specs.HeldVolumes.{HeldFile, HeldVolume}
 use Rattle.cms_held.specs.Puts.{limit_put}
-use Rattle.cms_draft.specs.BlockWriters.{came}
-use Rattle.cms_draft.specs.FileWriters.{FileWriter}
-use Rattle.cms_draft.specs.declared.shape.DraftShape.{DraftShape}
+use Rattle.cms_held.specs.BlockWriters.{came}
+use Rattle.cms_held.specs.FileWriters.{FileWriter}
+use Rattle.cms_held.specs.declared.shape.DraftShape.{DraftShape}
 use Rattle.cms_edf.specs.FileDrafts.{CanDraft, Draft}
 use Rattle.cms_edf.specs.FilesTold.{infos_in, stored_in}
 use Rattle.cms_edf.specs.Growths.{IsFileOf, IsMoreRefused, need_more}

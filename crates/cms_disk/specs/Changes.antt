@@ -19,7 +19,7 @@ use Rattle.cms_model.specs.Beats.{FitsStep}
 use Rattle.cms_map.specs.Bits.{free_blocks}
 use Rattle.cms_held.specs.HeldVolumes.{HeldFile, HeldTree, HeldVolume}
 use Rattle.cms_held.specs.Renewals.{made_at, made_without, moved_file, needed, renamed}
-use Rattle.cms_draft.specs.declared.shape.DraftShape.{DraftShape}
+use Rattle.cms_held.specs.declared.shape.DraftShape.{DraftShape}
 use Rattle.cms_edf.specs.FileDrafts.{file_for, list_with}
 use Rattle.cms_edf.specs.declared.allotment.PlanFault.{PlanFault}
 use Rattle.cms_edf.specs.declared.allotment.PlanFault.TheVariants as unplanned

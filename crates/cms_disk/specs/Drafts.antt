@@ -18,9 +18,9 @@ use Rattle.cms_held.specs.Drafts.{Front, no_front}
 use Rattle.cms_held.specs.Growths.{length_with}
 use Rattle.cms_held.specs.HeldVolumes.{HeldFile}
 use Rattle.cms_held.specs.Puts.{count_put, limit_put, need_put}
-use Rattle.cms_draft.specs.BlockWriters.{IsSame, came}
-use Rattle.cms_draft.specs.FileWriters.{FileWriter, Drafts, HaveShape}
-use Rattle.cms_draft.specs.declared.shape.DraftShape.{DraftShape}
+use Rattle.cms_held.specs.BlockWriters.{IsSame, came}
+use Rattle.cms_held.specs.FileWriters.{FileWriter, Drafts, HaveShape}
+use Rattle.cms_held.specs.declared.shape.DraftShape.{DraftShape}
 use Rattle.cms_edf.specs.FileDrafts.{DraftStands, Draft, IsDraftFor, put_writes, tree_of}
 use Rattle.cms_edf.specs.Growths.{IsFrontOf, IsMoreFor}
 use Rattle.cms_disk.specs.CrashStates.{CoversOn}

@@ -10,7 +10,7 @@ ghost use Rattle.cms_model.specs.Changes as model;
 ghost use Rattle.cms_model.specs.Changes.{Put};
 ghost use Rattle.cms_fields.specs.declared.time.Stamp as stamps;
 ghost use Rattle.cms_model.specs.Records.{IsValid, StandsFor};
-ghost use Rattle.cms_draft.specs.BlockWriters.{CanWrite};
+ghost use Rattle.cms_held.specs.BlockWriters.{CanWrite};
 ghost use Rattle.cms_held.specs.Puts.{count_put, limit_put};
 ghost use Rattle.cms_edf.specs.FileDrafts.{CanDraft};
 ghost use Rattle.cms_disk.specs.Changes.{Alters, ChangesDisk, IsDevices, IsPutIn};

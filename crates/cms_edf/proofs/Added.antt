@@ -46,10 +46,10 @@ use Rattle.cms_held.proofs.BlockBytes.{all_long}
 use Rattle.cms_held.proofs.Drafted.{fan_is}
 use Rattle.cms_held.proofs.Edits.{AtPlace, Old, at_place, files_old}
 use Rattle.cms_held.proofs.PlannedWrites.{WritesBlocks}
-use Rattle.cms_draft.specs.BlockWriters.{Streams, its_blocks}
-use Rattle.cms_draft.specs.FileWriters.{Drafts, IsDrafting, marks_in, start_in}
-use Rattle.cms_draft.specs.declared.block_writer.BlockWriter.{BlockWriter}
-use Rattle.cms_draft.specs.declared.shape.DraftShape.{DraftShape}
+use Rattle.cms_held.specs.BlockWriters.{Streams, its_blocks}
+use Rattle.cms_held.specs.FileWriters.{Drafts, IsDrafting, marks_in, start_in}
+use Rattle.cms_held.specs.declared.block_writer.BlockWriter.{BlockWriter}
+use Rattle.cms_held.specs.declared.shape.DraftShape.{DraftShape}
 use Rattle.cms_edf.specs.FileDrafts.{DraftStands, Draft, IsLeft, commit_writes, file_for, put_writes, tree_of}
 use Rattle.cms_edf.specs.Growths.{IsFrontOf, IsGrowthPlanned, IsMoreFor, kept_in}
 use Rattle.cms_edf.proofs.AddedFront.{front_behind}

@@ -32,9 +32,9 @@ use Rattle.cms_held.proofs.Drafted.{fan_is}
 use Rattle.cms_held.proofs.GrownFronts.{front_stays}
 use Rattle.cms_held.proofs.OldBlocks.{old_blocks}
 use Rattle.cms_held.proofs.PutAsides.{free_aside, free_of}
-use Rattle.cms_draft.specs.BlockWriters.{AddsOwnBlocks, its_blocks}
-use Rattle.cms_draft.specs.declared.shape.DraftShape.{DraftShape}
-use Rattle.cms_draft.proofs.FilePuts.{both_sizes as pointer_kind}
+use Rattle.cms_held.specs.BlockWriters.{AddsOwnBlocks, its_blocks}
+use Rattle.cms_held.specs.declared.shape.DraftShape.{DraftShape}
+use Rattle.cms_held.proofs.FilePuts.{both_sizes as pointer_kind}
 use Rattle.cms_held.proofs.AddCarried.{kept_at}
 use Rattle.cms_edf.specs.FileDrafts.{Draft, tree_of}
 use Rattle.cms_edf.specs.Growths.{IsFrontOf, IsGrowthPlanned, IsMoreFor, kept_in}

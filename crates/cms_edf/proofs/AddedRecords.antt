@@ -30,9 +30,9 @@ use Rattle.cms_held.specs.Written.{ReadsBack}
 use Rattle.cms_held.proofs.Edits.{AtPlace, FoundAt, Moved, at_place, found_at, names_distinct}
 use Rattle.cms_held.proofs.GrownEdits.{grow_moves}
 use Rattle.cms_held.proofs.GrownStarts.{grown_starts}
-use Rattle.cms_draft.specs.BlockWriters.{came}
-use Rattle.cms_draft.specs.FileWriters.{IsMarkedSo, start_on}
-use Rattle.cms_draft.specs.declared.block_writer.BlockWriter.{BlockWriter}
+use Rattle.cms_held.specs.BlockWriters.{came}
+use Rattle.cms_held.specs.FileWriters.{IsMarkedSo, start_on}
+use Rattle.cms_held.specs.declared.block_writer.BlockWriter.{BlockWriter}
 use Rattle.cms_edf.proofs.RecordStarts.{same_quotient}
 
 -- where all files of an image come from itself, each is held by it

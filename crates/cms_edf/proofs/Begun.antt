@@ -28,10 +28,10 @@ use Rattle.cms_held.specs.Marks.{nowhere}
 use Rattle.cms_held.specs.SharedBlocks.{AreLong}
 use Rattle.cms_held.proofs.BlockBytes.{all_long, piece_by_place}
 use Rattle.cms_held.proofs.Drafted.{fan_is}
-use Rattle.cms_draft.specs.BegunFiles.{IsInFront}
-use Rattle.cms_draft.specs.declared.begun.Begun.{Begun}
-use Rattle.cms_draft.specs.declared.shape.DraftShape.{DraftShape}
-use Rattle.cms_draft.proofs.FilePuts.{both_sizes as pointer_fits}
+use Rattle.cms_held.specs.BegunFiles.{IsInFront}
+use Rattle.cms_held.specs.declared.begun.Begun.{Begun}
+use Rattle.cms_held.specs.declared.shape.DraftShape.{DraftShape}
+use Rattle.cms_held.proofs.FilePuts.{both_sizes as pointer_fits}
 use Rattle.cms_held.proofs.AddCarried.{kept_at}
 use Rattle.cms_edf.specs.Growths.{GrowsAs, IsBegunOf, IsFront, IsGrowthOf}
 use Rattle.cms_edf.specs.declared.growth.Growth.{Growth}

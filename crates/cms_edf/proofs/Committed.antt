@@ -48,10 +48,10 @@ use Rattle.cms_held.proofs.Fronts.{failed_before}
 use Rattle.cms_held.proofs.PutAsides.{free_is_aside}
 use Rattle.cms_held.proofs.PutCarried.{put_is_carried}
 use Rattle.cms_held.proofs.PutSmall.{put_is_small}
-use Rattle.cms_draft.specs.BlockWriters.{CanWrite, Streams, its_blocks, came}
-use Rattle.cms_draft.specs.FileWriters.{Drafts, IsDrafting, marks_in, IsMarkedSo, start_in, start_on}
-use Rattle.cms_draft.specs.declared.block_writer.BlockWriter.{BlockWriter}
-use Rattle.cms_draft.specs.declared.shape.DraftShape.{DraftShape}
+use Rattle.cms_held.specs.BlockWriters.{CanWrite, Streams, its_blocks, came}
+use Rattle.cms_held.specs.FileWriters.{Drafts, IsDrafting, marks_in, IsMarkedSo, start_in, start_on}
+use Rattle.cms_held.specs.declared.block_writer.BlockWriter.{BlockWriter}
+use Rattle.cms_held.specs.declared.shape.DraftShape.{DraftShape}
 use Rattle.cms_edf.specs.Doubts.{IsCutOff, Updates, UpdatesSystems}
 use Rattle.cms_edf.specs.EntryShapes.{EndsIn}
 use Rattle.cms_edf.specs.FileDrafts.{CommitEvents, Commits, DraftStands, Draft, IsCommitted, IsCommittedAt, IsDraftFor, IsLeft, IsSomeDraft, MakesChange, commit_writes, file_for, list_with, put_in, put_writes, tree_of}

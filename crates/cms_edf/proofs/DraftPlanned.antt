@@ -38,7 +38,7 @@ use Rattle.cms_held.specs.Systems.{Systems}
 use Rattle.cms_held.specs.Renewals.{Edit, blocks_in, entries_held, needed}
 use Rattle.cms_held.specs.Puts.{AreFree, IsPutOf, adding, adds, count_put, count_with, limit_put, made_put, made_with, need_put, replaces, replacing}
 use Rattle.cms_held.proofs.MapMarks.{take_fewer}
-use Rattle.cms_draft.specs.declared.shape.DraftShape.{DraftShape}
+use Rattle.cms_held.specs.declared.shape.DraftShape.{DraftShape}
 use Rattle.cms_held.specs.SharedBlocks.{fresh_of}
 use Rattle.cms_held.specs.Written.{ReadsBack}
 use Rattle.cms_edf.specs.Allotments.{IsAllottedFor, all_fresh, given_back, need_of, own_fresh, numbers_made}

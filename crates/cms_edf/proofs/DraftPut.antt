@@ -27,13 +27,13 @@ use Rattle.cms_tree.specs.Kept.{Kept}
 use Rattle.cms_held.specs.Drafts.{Front, HasDraft, draft_writes, own_blocks, stored_on}
 use Rattle.cms_held.specs.Renewals.{Edit, blocks_in}
 use Rattle.cms_held.specs.Puts.{AreFree, GoesOn, count_put}
-use Rattle.cms_draft.specs.declared.shape.DraftShape.{DraftShape}
+use Rattle.cms_held.specs.declared.shape.DraftShape.{DraftShape}
 use Rattle.cms_edf.proofs.GrownOnce.{grown_once}
 use Rattle.cms_held.proofs.MapMarks.{free_once}
 use Rattle.cms_held.proofs.PutAsides.{draft_goes_on, free_is_aside}
-use Rattle.cms_draft.specs.BlockWriters.{AddsOwnBlocks, IsSame, IsWriter, Streams, came, its_blocks, written_with}
-use Rattle.cms_draft.specs.FileWriters.{FileWriter, Drafts, IsDrafting, Puts, marks_in}
-use Rattle.cms_draft.specs.declared.block_writer.BlockWriter.{BlockWriter}
+use Rattle.cms_held.specs.BlockWriters.{AddsOwnBlocks, IsSame, IsWriter, Streams, came, its_blocks, written_with}
+use Rattle.cms_held.specs.FileWriters.{FileWriter, Drafts, IsDrafting, Puts, marks_in}
+use Rattle.cms_held.specs.declared.block_writer.BlockWriter.{BlockWriter}
 use Rattle.cms_edf.specs.FileDrafts.{DraftStands, Draft, IsDraftFor, IsFilePlanned, IsSomeDraft, StandsThen, StaysHeld, entry_for, file_for, list_with, tree_of}
 use Rattle.cms_edf.specs.Growths.{IsGrowthPlanned, IsMoreFor, kept_in}
 use Rattle.cms_edf.proofs.Finished.{told_so}

@@ -36,7 +36,7 @@ use Rattle.cms_held.proofs.Drafted.{fan_is}
 use Rattle.cms_held.proofs.Grown.{behind_all, behind_low}
 use Rattle.cms_held.proofs.KeptTrees.{nodes_are}
 use Rattle.cms_held.proofs.NewMap.{row_within}
-use Rattle.cms_draft.specs.declared.shape.DraftShape.{DraftShape}
+use Rattle.cms_held.specs.declared.shape.DraftShape.{DraftShape}
 use Rattle.cms_held.proofs.AddCarried.{kept_at}
 use Rattle.cms_edf.specs.Allotments.{IsAllottedFor, given_back, need_of, numbers_made}
 use Rattle.cms_edf.specs.ChangePlans.{IsFilled}

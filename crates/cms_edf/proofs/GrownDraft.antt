@@ -15,10 +15,10 @@ use Rattle.cms_map.specs.Bits.{free_blocks}
 use Rattle.cms_held.specs.Drafts.{Front}
 use Rattle.cms_held.specs.HeldVolumes.{HeldFile, HeldTree, HeldVolume, names_in}
 use Rattle.cms_held.specs.Kept.{Keeps}
-use Rattle.cms_draft.specs.BegunFiles.{HaveShapeOn, IsBegun, IsContinued, bytes_before}
-use Rattle.cms_draft.specs.FileWriters.{Drafts, IsDrafting}
-use Rattle.cms_draft.specs.declared.begun.Begun.{Begun}
-use Rattle.cms_draft.specs.declared.shape.DraftShape.{DraftShape}
+use Rattle.cms_held.specs.BegunFiles.{HaveShapeOn, IsBegun, IsContinued, bytes_before}
+use Rattle.cms_held.specs.FileWriters.{Drafts, IsDrafting}
+use Rattle.cms_held.specs.declared.begun.Begun.{Begun}
+use Rattle.cms_held.specs.declared.shape.DraftShape.{DraftShape}
 use Rattle.cms_edf.specs.FileDrafts.{Draft, IsSomeDraft, tree_of}
 use Rattle.cms_edf.specs.Growths.{IsBegunOf, IsBehind, IsFileOf, IsFrontOf, IsGrownPlan, IsGrowthPlanned, IsMoreFor, IsMoreRefused, IsReadFault, need_more}
 use Rattle.cms_edf.specs.declared.growth.GrownPlan.{GrownPlan}

@@ -12,7 +12,7 @@ use Rattle.cms_model.proofs.Quotients.{up_spec}
 use Rattle.cms_held.specs.Drafts.{filled}
 use Rattle.cms_held.specs.HeldVolumes.{HeldFile}
 use Rattle.cms_held.specs.Kept.{IsKeptFile}
-use Rattle.cms_draft.specs.declared.shape.DraftShape.{DraftShape}
+use Rattle.cms_held.specs.declared.shape.DraftShape.{DraftShape}
 use Rattle.cms_edf.specs.Growths.{GrowsAs, IsGrowthOf}
 use Rattle.cms_edf.specs.declared.growth.Growth.{Growth}
 use Rattle.cms_edf.proofs.DraftPlanned.{whole_blocks}

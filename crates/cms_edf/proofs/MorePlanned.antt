@@ -17,12 +17,12 @@ use Rattle.cms_held.specs.SharedBlocks.{fresh_of}
 use Rattle.cms_held.specs.SharedTrees.{HasShape}
 use Rattle.cms_held.proofs.Drafted.{fan_is}
 use Rattle.cms_held.proofs.GrownBlocks.{own_is_fresh}
-use Rattle.cms_draft.specs.BegunFiles.{IsContinued}
-use Rattle.cms_draft.specs.BlockWriters.{came, its_blocks}
-use Rattle.cms_draft.specs.FileWriters.{IsDrafting}
-use Rattle.cms_draft.specs.declared.begun.Begun.{Begun}
-use Rattle.cms_draft.specs.declared.shape.DraftShape.{DraftShape}
-use Rattle.cms_draft.proofs.FilePuts.{both_sizes as pointer_kind}
+use Rattle.cms_held.specs.BegunFiles.{IsContinued}
+use Rattle.cms_held.specs.BlockWriters.{came, its_blocks}
+use Rattle.cms_held.specs.FileWriters.{IsDrafting}
+use Rattle.cms_held.specs.declared.begun.Begun.{Begun}
+use Rattle.cms_held.specs.declared.shape.DraftShape.{DraftShape}
+use Rattle.cms_held.proofs.FilePuts.{both_sizes as pointer_kind}
 use Rattle.cms_held.proofs.AddCarried.{kept_at}
 use Rattle.cms_edf.specs.FileDrafts.{Draft, entry_for, tree_of}
 use Rattle.cms_edf.specs.Growths.{IsBehind, IsGrowthPlanned, IsGrownPlan, IsMoreFor, IsMoreRefused, IsReadFault, kept_in, need_more}

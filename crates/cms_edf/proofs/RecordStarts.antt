@@ -13,7 +13,7 @@ use Rattle.cms_records.specs.Scans.{IsFed, VarScan, filled_by}
 use Rattle.cms_records.specs.Starts.{begins, last_start}
 use Rattle.cms_held.specs.Drafts.{no_front}
 use Rattle.cms_held.specs.Marks.{nowhere, start_of, starts_from}
-use Rattle.cms_draft.proofs.DraftMarks.{place_past}
+use Rattle.cms_held.proofs.DraftMarks.{place_past}
 
 -- where they fill whole blocks, none begins behind them
 pub none_starts : (bsize bytes total : ℕ) (records : List (List ℕ)) → bytes ≡ bsize → total % bytes ≡ 0 → total ≡ filled_by records → nowhere ≡ start_of bsize V records

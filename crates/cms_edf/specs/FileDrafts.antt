@@ -28,9 +28,9 @@ use Rattle.cms_held.specs.MinidiskUpdates.{IsHeldMinidisk, IsReadyFor, written_c
 use Rattle.cms_held.specs.Drafts.{Front, HasDraft, stored_on}
 use Rattle.cms_held.specs.LawsRenewals.{writes_of}
 use Rattle.cms_held.specs.Puts.{AreFree, IsPutOf, count_put, limit_put, need_put}
-use Rattle.cms_draft.specs.BlockWriters.{its_blocks, written_with}
-use Rattle.cms_draft.specs.FileWriters.{FileWriter, marks_in, start_in}
-use Rattle.cms_draft.specs.declared.shape.DraftShape.{DraftShape}
+use Rattle.cms_held.specs.BlockWriters.{its_blocks, written_with}
+use Rattle.cms_held.specs.FileWriters.{FileWriter, marks_in, start_in}
+use Rattle.cms_held.specs.declared.shape.DraftShape.{DraftShape}
 use Rattle.cms_edf.specs.Doubts.{Updates}
 use Rattle.cms_edf.specs.declared.allotment.PlanFault.{PlanFault}
 use Rattle.cms_edf.specs.declared.doubt.Doubt.{Doubt}

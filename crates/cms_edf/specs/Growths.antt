@@ -28,10 +28,10 @@ use Rattle.cms_held.specs.Puts.{AreFree, limit_put}
 use Rattle.cms_held.specs.Renewals.{blocks_in, made_at, needed}
 use Rattle.cms_held.specs.SharedBlocks.{AreLong, fresh_of}
 use Rattle.cms_held.specs.Systems.{Systems}
-use Rattle.cms_draft.specs.BegunFiles.{IsBegun, IsInFront}
-use Rattle.cms_draft.specs.BlockWriters.{came, its_blocks}
-use Rattle.cms_draft.specs.declared.begun.Begun.{Begun}
-use Rattle.cms_draft.specs.declared.shape.DraftShape.{DraftShape}
+use Rattle.cms_held.specs.BegunFiles.{IsBegun, IsInFront}
+use Rattle.cms_held.specs.BlockWriters.{came, its_blocks}
+use Rattle.cms_held.specs.declared.begun.Begun.{Begun}
+use Rattle.cms_held.specs.declared.shape.DraftShape.{DraftShape}
 use Rattle.cms_edf.specs.declared.allotment.PlanFault.{PlanFault}
 use Rattle.cms_edf.specs.declared.allotment.PlanFault.TheVariants as failed
 use Rattle.cms_edf.specs.declared.growth.Growth.{Growth}

@@ -32,9 +32,9 @@ mod volume;
 pub use allotment::PlanFault;
 pub use change::Change;
 pub use change_plan::plan;
-pub use cms_draft::DraftShape;
 pub use cms_held::{
-    carrying_laws, draft_laws, held_laws, making_laws, put_laws, renewal_laws, systems_laws,
+    DraftShape, carrying_laws, draft_laws, held_laws, making_laws, put_laws, renewal_laws,
+    systems_laws,
 };
 pub use cms_model::{FileData, OpenFault, Stored, VarFault};
 pub use doubt::Doubt;

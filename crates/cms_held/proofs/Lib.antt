@@ -64,3 +64,8 @@ pub mod GrownEdits
 pub mod AddAnswered
 pub mod DraftCount
 pub mod AddCarried
+pub mod BlockWritten
+pub mod Continued
+pub mod DraftMarks
+pub mod FilePuts
+pub mod WriterSteps

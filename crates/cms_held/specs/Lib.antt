@@ -25,3 +25,6 @@ pub mod SharedNeed
 pub mod HeldTrees
 pub mod Growths
 pub mod Additions
+pub mod BlockWriters
+pub mod BegunFiles
+pub mod FileWriters

@@ -7,7 +7,7 @@ use Rattle.cms_names.specs.declared.name.Name.{Name}
 use Rattle.cms_fields.specs.declared.time.Stamp.{Stamp}
 use Rattle.cms_model.specs.Changes.{Change}
 use Rattle.cms_model.specs.Minidisks.{Minidisk}
-use Rattle.cms_draft.specs.declared.shape.DraftShape.{DraftShape}
+use Rattle.cms_held.specs.declared.shape.DraftShape.{DraftShape}
 use Rattle.cms_world.specs.Seen.{OnlyReads, Seen}
 use Rattle.cms_edf.specs.FileDrafts.{Draft, IsSomeDraft}
 use Rattle.cms_disk.specs.Additions.{AnswersMore, BeginsMore, IsMoreFault, MayExtend}

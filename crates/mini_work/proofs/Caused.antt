@@ -5,7 +5,7 @@ use Rattle.std.specs.Prelude.{IfOk}
 use Rattle.cms_journal.specs.Causes.{Rose}
 use Rattle.cms_world.specs.Seen.{ChangesUnits, OnlyReads, Seen}
 use Rattle.cms_names.specs.declared.name.Name.{Name}
-use Rattle.cms_draft.specs.declared.shape.DraftShape.{DraftShape}
+use Rattle.cms_held.specs.declared.shape.DraftShape.{DraftShape}
 use Rattle.cms_held.specs.HeldVolumes.{HeldVolume}
 use Rattle.cms_disk.specs.Changes.{IsChangeFault, IsDevices}
 use Rattle.cms_disk.specs.Disks.{Accessed}

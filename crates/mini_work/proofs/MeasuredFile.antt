@@ -13,8 +13,8 @@ use Rattle.cms_model.proofs.Records.{length-with_length, length_stored_fixed}
 use Rattle.cms_fields.specs.declared.time.Stamp.{Stamp}
 use Rattle.cms_held.specs.Kept.{IsSized}
 use Rattle.cms_edf.specs.FileDrafts.{CanDraft}
-use Rattle.cms_draft.specs.FileWriters.{HaveShape}
-use Rattle.cms_draft.specs.declared.shape.DraftShape.{DraftShape}
+use Rattle.cms_held.specs.FileWriters.{HaveShape}
+use Rattle.cms_held.specs.declared.shape.DraftShape.{DraftShape}
 use Rattle.cms_copyfile.specs.Measures.{measured}
 use Rattle.cms_copyfile.specs.declared.measure.Measure.{Measure}
 use Rattle.mini_forms.specs.Readers.{IsSize}

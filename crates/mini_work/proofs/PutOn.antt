@@ -10,9 +10,9 @@ use Rattle.cms_model.specs.Changes.{Change, Put, file_named}
 use Rattle.cms_model.specs.LawsUpdates.{now}
 use Rattle.cms_model.specs.Minidisks.{File, Minidisk}
 use Rattle.cms_model.specs.Records.{length_of}
-use Rattle.cms_draft.specs.BlockWriters.{CanWrite}
-use Rattle.cms_draft.specs.FileWriters.{Drafts, HaveShape}
-use Rattle.cms_draft.specs.declared.shape.DraftShape.{DraftShape}
+use Rattle.cms_held.specs.BlockWriters.{CanWrite}
+use Rattle.cms_held.specs.FileWriters.{Drafts, HaveShape}
+use Rattle.cms_held.specs.declared.shape.DraftShape.{DraftShape}
 use Rattle.cms_edf.specs.FileDrafts.{Draft, IsSomeDraft}
 use Rattle.cms_edf.specs.FilesTold.{info_of, infos_in}
 use Rattle.cms_edf.specs.declared.held.FileInfo.{FileInfo}

@@ -2,7 +2,7 @@
 ghost use Rattle.std.specs.Prelude.{◌≡◌, ◌∷◌, ◌++◌, ◌<◌, ◌≤◌, ◌+◌, ℕ, List, [], length, take, Some, IfOk, IfErr, OnErr, OnOk};
 ghost use Rattle.std.specs.Option.{ForSome};
 ghost use Rattle.cms_journal.specs.Told.{Grown, Told};
-ghost use Rattle.cms_draft.specs.BlockWriters.{CanWrite};
+ghost use Rattle.cms_held.specs.BlockWriters.{CanWrite};
 ghost use Rattle.cms_fields.specs.declared.time.Stamp as stamps;
 ghost use Rattle.cms_model.specs.Changes as model;
 ghost use Rattle.cms_model.specs.Minidisks as minidisks;

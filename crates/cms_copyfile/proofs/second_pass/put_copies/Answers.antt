@@ -5,7 +5,7 @@ use Rattle.cms_journal.specs.declared.event.Attached.{Attached}
 use Rattle.cms_journal.specs.Journal.{HasBlocks}
 use Rattle.cms_journal.specs.Told.{Grown, Told}
 use Rattle.cms_journal.proofs.Pieces.{grown_then}
-use Rattle.cms_draft.specs.BlockWriters.{CanWrite}
+use Rattle.cms_held.specs.BlockWriters.{CanWrite}
 use Rattle.cms_disk.proofs.RecordsPut.{changes_then, same_none, same_then}
 use Rattle.cms_world.specs.Seen.{seen}
 use Rattle.cms_disk.specs.Cursors.{HandsOut, HasLeft, Cursor}

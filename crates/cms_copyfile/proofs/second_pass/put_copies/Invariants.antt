@@ -2,7 +2,7 @@ use Rattle.std.proofs.Common.{◌≡◌, ◌≤◌, List, ℕ, vec_capacity}
 use Rattle.std.specs.Option.{ForSome}
 use Rattle.cms_journal.specs.Journal.{HasBlocks}
 use Rattle.cms_journal.specs.Told.{Grown, Told}
-use Rattle.cms_draft.specs.BlockWriters.{CanWrite}
+use Rattle.cms_held.specs.BlockWriters.{CanWrite}
 use Rattle.cms_model.specs.Minidisks.{Minidisk}
 use Rattle.cms_disk.specs.Cursors.{SameFile}
 use Rattle.cms_disk.specs.Disks.{Accessed}

@@ -1,7 +1,7 @@
 use Rattle.std.proofs.Common.{◌≡◌, ◌≤◌}
 use Rattle.std.specs.Option.{ForSome}
 use Rattle.cms_journal.specs.Told.{Grown}
-use Rattle.cms_draft.specs.BlockWriters.{CanWrite}
+use Rattle.cms_held.specs.BlockWriters.{CanWrite}
 use Rattle.cms_records.specs.Stored.{records_in}
 use Rattle.cms_disk.proofs.RecordsPut.{PutTo}
 use Rattle.cms_disk.proofs.put.put_records.Given as goal

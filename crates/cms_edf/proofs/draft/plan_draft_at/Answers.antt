@@ -3,7 +3,7 @@ use Rattle.cms_edf.proofs.DraftPut.{new_is_some}
 use Rattle.std.proofs.Common.{subst}
 use Rattle.std.specs.Prelude.{IfOk}
 use Rattle.cms_held.specs.HeldVolumes.{HeldVolume}
-use Rattle.cms_draft.specs.FileWriters.{IsFresh}
+use Rattle.cms_held.specs.FileWriters.{IsFresh}
 use Rattle.cms_edf.specs.FileDrafts.{IsDraftFor, tree_of}
 use Rattle.cms_edf.proofs.draft.plan_draft_at.Goals as goal
 

@@ -10,7 +10,7 @@ use Rattle.cms_edf.specs.FileDrafts.{IsFilePlanned, entry_for}
 use Rattle.cms_edf.specs.NoRoom.{LacksRoom}
 use Rattle.cms_edf.proofs.DraftPlanned.{count_files, limits, need_is, planned_parts, put_places, some_stored, place_within}
 use Rattle.cms_held.specs.Written.{CanWrite}
-use Rattle.cms_draft.specs.FileWriters.{IsFresh}
+use Rattle.cms_held.specs.FileWriters.{IsFresh}
 use Rattle.cms_edf.proofs.draft.plan_file.Goals as goal
 
 count_low : (leaves nodes : ℕ) → leaves + nodes < 2 ^ 31 → leaves < 2 ^ 32

@@ -12,9 +12,9 @@ use Rattle.cms_held.specs.Renewals.{Edit, renewed}
 use Rattle.cms_held.specs.Systems.{system_writes}
 use Rattle.cms_model.specs.Settled.{writes}
 use Rattle.cms_held.proofs.Fronts.{on_ok}
-use Rattle.cms_draft.specs.BlockWriters.{its_blocks}
-use Rattle.cms_draft.specs.FileWriters.{start_in, IsDrafting}
-use Rattle.cms_draft.specs.declared.shape.DraftShape.{DraftShape}
+use Rattle.cms_held.specs.BlockWriters.{its_blocks}
+use Rattle.cms_held.specs.FileWriters.{start_in, IsDrafting}
+use Rattle.cms_held.specs.declared.shape.DraftShape.{DraftShape}
 use Rattle.cms_edf.specs.FileDrafts.{Draft, IsCommitted, IsSomeDraft, LeadsToFile, file_for, list_with, put_in, tree_of}
 use Rattle.cms_edf.specs.declared.doubt.Doubt.{Doubt}
 use Rattle.cms_edf.specs.declared.doubt.Doubt.TheVariants.{Old}

@@ -7,7 +7,7 @@ use Rattle.cms_model.specs.Sizes.{pointer_count}
 use Rattle.cms_held.specs.HeldVolumes.{HeldFile, Held}
 use Rattle.cms_held.specs.Kept.{Keeps}
 use Rattle.cms_held.proofs.Drafted.{fan_is}
-use Rattle.cms_draft.specs.declared.begun.Begun.{Begun}
+use Rattle.cms_held.specs.declared.begun.Begun.{Begun}
 use Rattle.cms_edf.specs.Growths.{IsBegunOf, IsReadFault, resume_fault, unread_fault}
 use Rattle.cms_edf.proofs.Begun.{begun_of, file_block, in_place, resumed_as}
 use Rattle.cms_held.proofs.AddCarried.{kept_at}

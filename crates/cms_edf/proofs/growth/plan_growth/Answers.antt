@@ -24,7 +24,7 @@ use Rattle.cms_journal.proofs.Sizes.{block_bounds}
 use Rattle.cms_fields.specs.Limits.{most_files}
 use Rattle.cms_tree.specs.Paths.{fresh_places}
 use Rattle.cms_held.specs.Kept.{IsKeptFile, Keeps}
-use Rattle.cms_draft.specs.declared.shape.DraftShape.{DraftShape}
+use Rattle.cms_held.specs.declared.shape.DraftShape.{DraftShape}
 use Rattle.cms_edf.specs.declared.allotment.PlanFault.{PlanFault}
 use Rattle.cms_edf.specs.declared.allotment.PlanFault.TheVariants as failed
 use Rattle.cms_edf.specs.declared.growth.Growth.{Growth}

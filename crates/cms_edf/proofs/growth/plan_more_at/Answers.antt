@@ -3,8 +3,8 @@ use Rattle.std.proofs.lemmas.Map.Entries.{length-values_of}
 use Rattle.std.proofs.lemmas.Option.{same_Some}
 use Rattle.std.proofs.lemmas.Result.{err_from_is_err_and}
 use Rattle.cms_journal.specs.Journal.{HasBlocks}
-use Rattle.cms_draft.specs.BegunFiles.{HaveShapeOn, IsBegun, IsContinued, bytes_before}
-use Rattle.cms_draft.specs.FileWriters.{Drafts}
+use Rattle.cms_held.specs.BegunFiles.{HaveShapeOn, IsBegun, IsContinued, bytes_before}
+use Rattle.cms_held.specs.FileWriters.{Drafts}
 use Rattle.cms_fields.specs.Entries.{fan_of, pointer_size}
 use Rattle.cms_fields.specs.Numbers.{up}
 use Rattle.cms_model.specs.Sizes.{pointer_count}
@@ -12,7 +12,7 @@ use Rattle.cms_held.specs.Drafts.{Front}
 use Rattle.cms_held.specs.HeldVolumes.{HeldFile, HeldVolume, Held}
 use Rattle.cms_edf.specs.FileDrafts.{Draft, tree_of}
 use Rattle.cms_edf.specs.Growths.{CanGrow, IsBehind, IsFileOf, IsFrontOf, IsMoreFor, IsMoreRefused, more_fault}
-use Rattle.cms_draft.specs.declared.shape.DraftShape.{DraftShape}
+use Rattle.cms_held.specs.declared.shape.DraftShape.{DraftShape}
 use Rattle.cms_names.specs.declared.name.Name.{Name}
 use Rattle.cms_edf.specs.ChangePlans.{place_in}
 use Rattle.cms_edf.proofs.GrownDraft.{GoesOn, WantsOn, on_behind, on_drafts, on_planned, on_refused, on_some, wants_on}

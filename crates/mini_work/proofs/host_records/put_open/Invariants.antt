@@ -2,7 +2,7 @@ use Rattle.mini_work.specs.Causes.{AreLater, counts}
 use Rattle.std.proofs.Common.{◌≡◌, ℕ, List, [], Ok, Some}
 use Rattle.std.specs.Option.{ForSome}
 use Rattle.cms_journal.specs.Told.{Grown, Told}
-use Rattle.cms_draft.specs.BlockWriters.{CanWrite}
+use Rattle.cms_held.specs.BlockWriters.{CanWrite}
 use Rattle.cms_fields.specs.declared.time.Stamp.{Stamp}
 use Rattle.cms_model.specs.Changes.{Change}
 use Rattle.cms_model.specs.Minidisks.{Minidisk}

@@ -14,7 +14,7 @@ use Rattle.cms_edf.proofs.Committed.{can_write}
 use Rattle.cms_edf.proofs.Planned.{named_at}
 use Rattle.cms_edf.specs.FileDrafts.{IsSomeDraft, LeadsToFile}
 use Rattle.cms_edf.specs.declared.draft.Draft.{Draft}
-use Rattle.cms_draft.specs.declared.shape.DraftShape.{DraftShape}
+use Rattle.cms_held.specs.declared.shape.DraftShape.{DraftShape}
 use Rattle.cms_disk.specs.Additions.{IsAddFault}
 use Rattle.cms_disk.specs.Changes.{Appends, ChangesDisk, IsDevices, IsPutIn}
 use Rattle.cms_disk.specs.Disks.{Accessed}

@@ -12,9 +12,9 @@ use Rattle.cms_held.specs.Puts.{count_put, limit_put}
 use Rattle.cms_edf.specs.FileDrafts.{IsSomeDraft, LeadsToFile}
 use Rattle.cms_edf.proofs.Committed.{can_write}
 use Rattle.cms_journal.specs.Told.{Told}
-use Rattle.cms_draft.specs.FileWriters.{HaveShape}
+use Rattle.cms_held.specs.FileWriters.{HaveShape}
 use Rattle.cms_edf.specs.declared.draft.Draft.{Draft}
-use Rattle.cms_draft.specs.declared.shape.DraftShape.{DraftShape}
+use Rattle.cms_held.specs.declared.shape.DraftShape.{DraftShape}
 use Rattle.cms_disk.specs.Changes.{Alters, IsDevices, IsPutIn}
 use Rattle.cms_disk.specs.Disks.{Accessed}
 use Rattle.cms_disk.specs.Drafts.{GoesOn, HaveCounts, IsDraftFault, IsPutFault, file_with, shape_of}

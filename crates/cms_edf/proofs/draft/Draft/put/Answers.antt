@@ -1,7 +1,7 @@
 use Rattle.std.proofs.Common.{sym, ap}
-use Rattle.cms_draft.specs.BlockWriters.{came}
-use Rattle.cms_draft.specs.FileWriters.{FileWriter}
-use Rattle.cms_draft.proofs.FilePuts.{stored_long}
+use Rattle.cms_held.specs.BlockWriters.{came}
+use Rattle.cms_held.specs.FileWriters.{FileWriter}
+use Rattle.cms_held.proofs.FilePuts.{stored_long}
 use Rattle.cms_edf.specs.FileDrafts.{Draft}
 use Rattle.cms_edf.proofs.AddedFront.{front_told}
 use Rattle.cms_edf.proofs.DraftPut.{planned_still, stands_then, stays_held}

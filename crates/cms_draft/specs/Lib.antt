@@ -1,3 +1,0 @@
-pub mod BlockWriters
-pub mod BegunFiles
-pub mod FileWriters
