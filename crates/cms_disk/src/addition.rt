@@ -143,7 +143,12 @@ impl Minidisk {
         }
         let shape = self.shape_with(place, more)?;
         let mut draft = self.draft_more_at(alloc, world, place, name, &shape, stamp)?;
-        put_records(world, &mut draft, more)?;
-        self.commit(world, draft)
+        match put_records(world, &mut draft, more) {
+            Ok(()) => self.commit(world, draft),
+            Err(fault) => {
+                drop(draft);
+                Err(fault)
+            }
+        }
     }
 }

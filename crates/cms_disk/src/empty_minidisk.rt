@@ -53,7 +53,13 @@ impl Minidisk {
             (seen W.World world.new) IsDevices result }
     {
         let plan = plan_make(alloc, &unit.unit, unit.bsize, volid, stamp)?;
-        wipe(world, unit.unit.number, unit.bsize)?;
+        match wipe(world, unit.unit.number, unit.bsize) {
+            Ok(()) => {}
+            Err(doubt) => {
+                drop(plan);
+                return Err(DiskFault::from(doubt));
+            }
+        }
         let held = make(world, plan)?;
         Ok(Minidisk { unit: *unit, held })
     }

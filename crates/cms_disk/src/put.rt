@@ -150,7 +150,12 @@ impl Minidisk {
     {
         let shape = shape_of(file);
         let mut draft = self.draft_at(alloc, there, name, &shape, stamp)?;
-        put_records(world, &mut draft, file)?;
-        self.commit(world, draft)
+        match put_records(world, &mut draft, file) {
+            Ok(()) => self.commit(world, draft),
+            Err(fault) => {
+                drop(draft);
+                Err(fault)
+            }
+        }
     }
 }

@@ -1,5 +1,5 @@
 -- A volume is opened, and held.
-use Rattle.std.proofs.Common.{◌≡◌, ℕ, ◌/◌, ◌^◌, ◌<◌, ◌≤◌, Bool, true, false, List, [], ◌∷◌, length, map, Option, Some, Result, Ok, Err, refl, sym, ◌∙◌, ap, subst, arith}
+use Rattle.std.proofs.Common.{◌≡◌, ◌⊎◌, inl, inr, ℕ, ◌/◌, ◌^◌, ◌<◌, ◌≤◌, Bool, true, false, List, [], ◌∷◌, length, map, Option, Some, Result, Ok, Err, refl, sym, ◌∙◌, ap, subst, arith}
 use Rattle.std.specs.Prelude.{IfOk, IfErr, nat_le}
 use Rattle.std.proofs.lemmas.Bool.{le-leb, lt-leb}
 use Rattle.cms_journal.specs.Journal.{Journal}
@@ -182,3 +182,8 @@ walked_shape bsize blocks t w is leaves few nodes =
     let some = leaves.0 in
     let count = leaves.1 in
     subst (HasShape (bsize / 4)) (sym is) (record { some = omega arith; few = omega arith; nodes = nodes ∙ ap (pointer_count (bsize / 4)) (sym count) })
+
+-- the directory begins in block 4 or 5
+pub origin_in : (n : ℕ) → (n ≡ 4) ⊎ (n ≡ 5) → (4 ≤ n) × (n ≤ 5)
+origin_in n (inl is) = (omega arith, omega arith)
+origin_in n (inr is) = (omega arith, omega arith)

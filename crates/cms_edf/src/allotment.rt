@@ -429,9 +429,18 @@ fn allot_all(
     let used = exchange.file + written_count(&places) - 1;
     let (file, behind) = lowest.split_at(exchange.file as usize);
     let directory = share_directory(alloc, held, exchange.files, places, behind)?;
-    let released = released_blocks(alloc, exchange, &directory.left)?;
-    let file = file.to_vec(alloc)?;
-    let new = take_map(alloc, held, used, &lowest, &released)?;
+    let Ok(released) = released_blocks(alloc, exchange, &directory.left) else {
+        drop(directory);
+        return Err(AllocError);
+    };
+    let Ok(file) = file.to_vec(alloc) else {
+        drop(directory);
+        return Err(AllocError);
+    };
+    let Ok(new) = take_map(alloc, held, used, &lowest, &released) else {
+        drop(directory);
+        return Err(AllocError);
+    };
     let shared = new.shared;
     Ok(Allotment {
         file,

@@ -256,7 +256,13 @@ pub fn read_contents<W: World>(
     for tree in trees {
         let nth = files.len();
         let entry = entries[nth];
-        let told = read_sizes(alloc, world, place, nth as u32 + 2, &entry, &tree.leaves)?;
+        let told = match read_sizes(alloc, world, place, nth as u32 + 2, &entry, &tree.leaves) {
+            Ok(told) => told,
+            Err(fault) => {
+                drop(tree);
+                return Err(fault);
+            }
+        };
         insert(&mut files, file_of(entry, tree, &told))?;
     }
     Ok(files)

@@ -222,6 +222,7 @@ fn plan_file(
         Err(why) => return Err(why),
     };
     let Ok(tree) = tree_in(alloc, &allotment.file, counts.data) else {
+        drop(allotment);
         return Err(PlanFault::Memory);
     };
     let entry = entry_for(name, asked, &tree, counts.levels);
@@ -229,6 +230,7 @@ fn plan_file(
         return Err(PlanFault::Memory);
     };
     let Ok(writer) = FileWriter::new(alloc, held.unit, held.bsize, asked, tree) else {
+        drop(systems);
         return Err(PlanFault::Memory);
     };
     Ok(Draft {

@@ -92,7 +92,11 @@ impl Held {
                 self.renew_with(file, systems);
                 Ok(())
             }
-            Err(doubt) => Err(doubt),
+            Err(doubt) => {
+                drop(file);
+                drop(systems);
+                Err(doubt)
+            }
         }
     }
 }
@@ -160,6 +164,9 @@ pub fn commit<W: World>(world: &mut W, held: &mut Held, draft: Draft) -> Result<
             };
             held.carry_file(world, file, systems)
         }
-        Err(Failed) => Err(Doubt::Old),
+        Err(Failed) => {
+            drop(systems);
+            Err(Doubt::Old)
+        }
     }
 }

@@ -248,7 +248,10 @@ pub fn make<W: World>(world: &mut W, plan: MakePlan) -> Result<Held, Doubt>
     } = plan;
     match systems.carry_out(world, unit) {
         Ok(()) => Ok(held(unit, bsize, blocks, systems, files)),
-        Err(why) => Err(why),
+        Err(why) => {
+            drop(systems);
+            Err(why)
+        }
     }
 }
 

@@ -175,14 +175,17 @@ fn plan_growth(
         pointers: &[],
     };
     let allotment = allot(alloc, held, &exchange)?;
-    let tree = shared_tree(
+    let Ok(tree) = shared_tree(
         alloc,
         old,
         growth.count,
         growth.fan,
         &places,
         &allotment.file,
-    )?;
+    ) else {
+        drop(allotment);
+        return Err(PlanFault::Memory);
+    };
     let entry = entry_for(name, asked, &tree, growth.levels);
     let systems = plan_entry(
         alloc,
@@ -384,7 +387,13 @@ pub fn plan_more_at<W: World>(
         return Err(MoreFault::Memory);
     };
     let planned = plan_growth(alloc, held, place, name, asked, stamp)?;
-    let begun = begin(alloc, world, held, place, &planned.growth)?;
+    let begun = match begin(alloc, world, held, place, &planned.growth) {
+        Ok(begun) => begun,
+        Err(fault) => {
+            drop(planned);
+            return Err(fault);
+        }
+    };
     let put = held.files[place as usize].entry.count;
     Ok(Draft {
         entry: planned.entry,

@@ -71,9 +71,29 @@ fn open_labelled<W: World>(
 {
     let place = place_of(unit, bsize, &label);
     let listing = read_listing(alloc, world, &place)?;
-    let trees = read_trees(alloc, world, &place, &listing)?;
-    let marks = read_marks(alloc, world, &place, &listing.walked, &trees)?;
-    let files = read_contents(alloc, world, &place, &listing.entries, trees.files)?;
+    let trees = match read_trees(alloc, world, &place, &listing) {
+        Ok(trees) => trees,
+        Err(fault) => {
+            drop(listing);
+            return Err(fault);
+        }
+    };
+    let marks = match read_marks(alloc, world, &place, &listing.walked, &trees) {
+        Ok(marks) => marks,
+        Err(fault) => {
+            drop(trees);
+            drop(listing);
+            return Err(fault);
+        }
+    };
+    let files = match read_contents(alloc, world, &place, &listing.entries, trees.files) {
+        Ok(files) => files,
+        Err(fault) => {
+            drop(trees.map);
+            drop(listing);
+            return Err(fault);
+        }
+    };
     Ok(Held {
         unit: unit.number,
         bsize,

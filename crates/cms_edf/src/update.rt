@@ -74,7 +74,10 @@ impl Held {
                 self.renew(edit, systems);
                 Ok(())
             }
-            Err(doubt) => Err(doubt),
+            Err(doubt) => {
+                drop(systems);
+                Err(doubt)
+            }
         }
     }
 

@@ -1,5 +1,6 @@
 -- What is said of a result where a `?` leaves, and of calls on units alone.
-use Rattle.std.proofs.Common.{◌≡◌, ◌≤◌, ℕ, Result, Ok, Err, refl, sym, ◌∙◌, subst, arith}
+use Rattle.std.proofs.Common.{◌≡◌, ◌≤◌, ℕ, List, Result, Ok, Err, refl, sym, ◌∙◌, subst, arith}
+use Rattle.std.specs.Prelude.{⊤}
 use Rattle.std.specs.Result.{IfErr, IfOk, IsErrAnd, OnErr}
 use Rattle.std.proofs.lemmas.Result.{IfErr-weaker}
 use Rattle.cms_journal.specs.Causes.{Rose}
@@ -8,7 +9,11 @@ use Rattle.cms_world.specs.Seen.{OnlyReads, OnUnits, Seen}
 use Rattle.cms_tree.specs.declared.types.ResumeFault.{ResumeFault}
 use Rattle.cms_tree.specs.declared.types.ResumeFault.TheVariants as resume
 use Rattle.cms_tree.specs.declared.types.TreeFault.{TreeFault}
-use Rattle.cms_tree.specs.declared.types.TreeFault.TheVariants.{Device, Memory}
+use Rattle.cms_tree.specs.declared.types.TreeFault.TheVariants.{Device, Memory, Pointer}
+use Rattle.cms_tree.specs.declared.types.TreeAt.{TreeAt}
+use Rattle.cms_tree.specs.declared.types.Walked.{Walked}
+use Rattle.cms_tree.specs.Walks.{Appends, Reads}
+use Rattle.cms_model.specs.Trees.{Image}
 
 -- there is no value
 pub ok_at_err : {T E : Type 0} (Q : E → Type 0) (r : Result T E) (P : T → Type 0) → IsErrAnd r Q → IfOk r P
@@ -121,3 +126,19 @@ memory_only e memory device = cc
 
 pub memory_resumes : (e : ResumeFault) → e ≡ resume.Memory → e ≡ resume.Device → ⊥
 memory_resumes e memory device = cc
+
+-- a walk ended with the fault of a part
+pub tree_at_err : (image : Image) (at : TreeAt) (r : Result Walked TreeFault) (why : TreeFault) → IsErrAnd r (λ e. e ≡ why) → Reads image at (Err why) → Reads image at r
+tree_at_err image at (Ok x) why h reads = absurd h
+tree_at_err image at (Err e) why h reads = subst (λ (f : TreeFault). Reads image at (Err f)) (sym h) reads
+
+-- the blocks of a walk are appended, or not, with the fault of a part
+pub appends_at_err : (image : Image) (at : TreeAt) (p p' l l' : List ℕ) (r : Result ⊤ TreeFault) (why : TreeFault) → IsErrAnd r (λ e. e ≡ why) → Reads image at (Err why)
+    → Appends image at p p' l l' r
+appends_at_err image at p p' l l' (Ok x) why h reads = absurd h
+appends_at_err image at p p' l l' (Err e) why h reads = subst (λ (f : TreeFault). Appends image at p p' l l' (Err f)) (sym h) (go why reads)
+  where
+    go : (f : TreeFault) → Reads image at (Err f) → Appends image at p p' l l' (Err f)
+    go Device r = tt
+    go Memory r = tt
+    go (Pointer holder value) r = r

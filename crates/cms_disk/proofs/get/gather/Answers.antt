@@ -39,3 +39,9 @@ loop-bytes-preserved g c =
       faults = omega (arith, n.reads.faults, l.invariant.faults);
       edges = n.reads.edges ∙ l.invariant.edges;
     }
+
+pub returns-clause-fault : goal.returns-clause-fault
+returns-clause-fault g c = tt
+
+pub returns-clause-altered : goal.returns-clause-altered
+returns-clause-altered g c = tt

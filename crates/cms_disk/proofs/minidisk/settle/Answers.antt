@@ -15,3 +15,15 @@ returns-in-Ok-clause-changes g c = record {
   edges = c.in-Ok.ensures.edges;
   cause = tt;
 }
+
+pub returns-then-not-doubt-clause-failed : goal.returns-then-not-doubt-clause-failed
+returns-then-not-doubt-clause-failed g c = tt
+
+pub returns-in-Ok-clause-failed : goal.returns-in-Ok-clause-failed
+returns-in-Ok-clause-failed g c = tt
+
+pub returns-in-Err-clause-quiet : goal.returns-in-Err-clause-quiet
+returns-in-Err-clause-quiet g c = tt
+
+pub returns-in-Err-clause-synced : goal.returns-in-Err-clause-synced
+returns-in-Err-clause-synced g c = tt

@@ -106,3 +106,33 @@ returns-in-Ok-allot_all-clause-fixed c = subst (λ (h : Held). HasFixed h.volume
 
 pub returns-in-Err-clause-fixed : goal.returns-in-Err-clause-fixed
 returns-in-Err-clause-fixed c = subst (λ (h : Held). HasFixed h.volume.bits) c.held.view_is c.free_count-free.ensures.fixed
+
+pub returns-in_default-clause-allotted : goal.returns-in_default-clause-allotted
+returns-in_default-clause-allotted c = tt
+
+pub returns-in_default-clause-map_few : goal.returns-in_default-clause-map_few
+returns-in_default-clause-map_few c = tt
+
+pub returns-in_default-clause-room : goal.returns-in_default-clause-room
+returns-in_default-clause-room c = tt
+
+pub returns-then-free-need-clause-allotted : goal.returns-then-free-need-clause-allotted
+returns-then-free-need-clause-allotted c = tt
+
+pub returns-then-free-need-clause-map_few : goal.returns-then-free-need-clause-map_few
+returns-then-free-need-clause-map_few c = tt
+
+pub returns-then-free-need-clause-room : goal.returns-then-free-need-clause-room
+returns-then-free-need-clause-room c = tt
+
+pub returns-in-Ok-allot_all-clause-full : goal.returns-in-Ok-allot_all-clause-full
+returns-in-Ok-allot_all-clause-full c = tt
+
+pub returns-in-Err-clause-allotted : goal.returns-in-Err-clause-allotted
+returns-in-Err-clause-allotted c = tt
+
+pub returns-in-Err-clause-map_few : goal.returns-in-Err-clause-map_few
+returns-in-Err-clause-map_few c = tt
+
+pub returns-in-Err-clause-room : goal.returns-in-Err-clause-room
+returns-in-Err-clause-room c = tt

@@ -87,14 +87,14 @@ returns c =
     let kept : Keeps v = subst (λ (h : Held). Keeps h.volume) c.held.view_is c.held.invariant.kept in
     let s = splits_so v x asked kept c.requires.few c.requires.written c.requires.nodes c.requires.first c.requires.may in
     let lowest = c.in_ok-lowest.field-0.blocks.items in
-    let released = c.in_ok-released.released.items in
+    let released = c.in-Ok.released.items in
     let directory = c.in_ok-directory.directory in
-    let new = c.in_ok-new in
+    let new = c.in-Ok-take_map in
     let shared = new.new.shared in
     let used = x.file + c.written_count.result - 1 in
     let all = used + (length shared.places.leaves + length shared.places.nodes) in
     let low = c.in_ok-lowest.ensures.blocks ∙ ap (λ (h : Held). take c.args.need (free_blocks h.volume.bits)) c.held.view_is in
-    let copy : c.in_ok-file.file.items ≡ c.split_at.result.0.now = search rules in
+    let copy : c.in-Ok-to_vec.file.items ≡ c.split_at.result.0.now = search rules in
     let file = copy ∙ (c.split_at.ensures.front ∙ ap (take x.file) c.deref.ensures.value) in
     let behind = c.split_at.ensures.back ∙ ap (drop x.file) c.deref.ensures.value in
     let lows = c.deref-3.ensures.value in
@@ -103,7 +103,7 @@ returns c =
     allotted_so v x _ asked lowest released shared.places.leaves directory.left.items shared.left.items c.args.need used all kept.directory_is kept.map_is c.requires.written c.requires.nodes s.some
     c.requires.need c.requires.enough low (ap (λ (n : ℕ). x.file + n - 1) c.written_count.ensures) file
     (subst (λ (l : List ℕ). SharesDirectory v x.files l asked directory.tree directory.places directory.left.items) behind c.in_ok-directory.ensures)
-    (c.in_ok-released.ensures ∙ ap (λ (l : List ℕ). given_back x ++ drop 1 l) c.deref-2.ensures.value)
+    (c.in-Ok.ensures ∙ ap (λ (l : List ℕ). given_back x ++ drop 1 l) c.deref-2.ensures.value)
     (subst (λ (l : List ℕ). AreTouched v.disk.bsize l shared.places.leaves) (λ i. on_map v.label.blocks (turned (length (lows i)) v.bits (take used (lows i)) (given i) v.map)) new.ensures.touched)
     (subst (λ (l : List ℕ). MapIsShared v shared.places.leaves (drop used l) shared.tree shared.places shared.left.items) lows new.ensures.shared) refl
     (new.ensures.marks ∙ (λ i. with_freed (given i ++ shared.left.items) bits))
@@ -113,12 +113,3 @@ returns-in_err-lowest c = ok_at_err _ c.from_residual.result _ c.from_residual.e
 
 pub returns-in_err-directory : goal.returns-in_err-directory
 returns-in_err-directory c = ok_at_err _ c.from_residual-in_err-directory.result _ c.from_residual-in_err-directory.ensures.1
-
-pub returns-in_err-released : goal.returns-in_err-released
-returns-in_err-released c = ok_at_err _ c.from_residual-in_err-released.result _ c.from_residual-in_err-released.ensures.1
-
-pub returns-in_err-file : goal.returns-in_err-file
-returns-in_err-file c = ok_at_err _ c.from_residual-in_err-file.result _ c.from_residual-in_err-file.ensures.1
-
-pub returns-in_err-new : goal.returns-in_err-new
-returns-in_err-new c = ok_at_err _ c.from_residual-in_err-new.result _ c.from_residual-in_err-new.ensures.1

@@ -133,3 +133,12 @@ returns-in_err-step-in-Century-clause-planned c = ok_at_err _ c.from_residual-in
 
 pub returns-in_err-step-in-Century-clause-spare : goal.returns-in_err-step-in-Century-clause-spare
 returns-in_err-step-in-Century-clause-spare c = ok_at_err _ c.from_residual-in_err-step-in-Century.result _ c.from_residual-in_err-step-in-Century.ensures.1
+
+pub returns-in_default-clause-planned : goal.returns-in_default-clause-planned
+returns-in_default-clause-planned c = tt
+
+pub returns-in_default-clause-spare : goal.returns-in_default-clause-spare
+returns-in_default-clause-spare c = tt
+
+pub returns-clause-full : goal.returns-clause-full
+returns-clause-full c = tt

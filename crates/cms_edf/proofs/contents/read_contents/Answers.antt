@@ -1,4 +1,4 @@
-use Rattle.std.proofs.Common.{rules, ◌≡◌, ◌++◌, ◌∷◌, [], ◌+◌, ◌<◌, ℕ, true, List, None, length, map, take, get_or, refl, sym, ◌∙◌, ap, subst, arith, append_assoc, append-nil, ◌≤◌}
+use Rattle.std.proofs.Common.{rules, ◌≡◌, ◌++◌, ◌∷◌, [], ◌+◌, ◌<◌, ℕ, true, List, Err, None, length, map, take, get_or, refl, sym, ◌∙◌, ap, subst, arith, append_assoc, append-nil, ◌≤◌}
 use Rattle.std.specs.Map.{keys_of}
 use Rattle.std.specs.Vec.Iter.{into_iter_items}
 use Rattle.std.proofs.lemmas.List.{length_push, map_push, nil_from_length}
@@ -90,24 +90,22 @@ insert-requires g c =
     let keys_are = ap keys_of l.invariant.named ∙ (keys_named (values l.files) ∙ l.invariant.names) in
     record { new = rw (name_is, keys_are) (name_is_new a.entries.now k c.index-entries-nth.result c.requires.names (omega (arith, item.0, count)) at) }
 
-pub returns-in_err-told-clause-fault : goal.returns-in_err-told-clause-fault
-returns-in_err-told-clause-fault g c =
+pub returns-in-Err-clause-fault : goal.returns-in-Err-clause-fault
+returns-in-Err-clause-fault g c = λ j told.
     let l = c.loop-tree in
     let a = c.args in
     let k = length l.yielded in
-    let p = err_from_is_err_and c.from_residual.result c.from_residual.ensures.1 in
     let gives = c.into_iter-tree-iterator.ensures.into_iter_gives.0 in
     let steps : into_iter_items l.tree-iterator ≡ c.in-Some.tree ∷ into_iter_items c.next.new.self = c.in-Some.ensures.steps.0 in
     let item = taken_is l.yielded c.in-Some.tree (into_iter_items c.next.new.self) a.trees.items (ap (λ (r : List Walked). l.yielded ++ r) (sym steps) ∙ (l.invariant.trees ∙ gives)) in
     let nth : c.len-nth.result ≡ k = search rules in
     let count = c.requires.count in
     let leaves : c.deref.result.now ≡ c.in-Some.tree.leaves.items = search rules in
-    rw (p.1, p.2) (λ j told.
     let image = image_of (contents_of j a.place.now.unit) in
-    contents_bad a.place.now.bsize image a.entries.now a.trees.items k (c.len-nth.result + 2) c.index-entries-nth.result c.in-Some.tree c.deref.result.now (values l.files) c.in_err-told.field-0.0
+    contents_bad a.place.now.bsize image a.entries.now a.trees.items k (c.len-nth.result + 2) c.index-entries-nth.result c.in-Some.tree c.deref.result.now (values l.files) c.in-Err.fault
     (omega (arith, item.0, count)) (index_at a.entries.now c.len-nth.result k c.index-entries-nth.result nth c.index-entries-nth.is) item.0 item.1 (omega (arith, nth)) leaves
-    (c.in_err-told.ensures.fault j (l.invariant.told ∙ told))
-    (subst (λ (ws : List Walked). ContentsTo a.place.now.bsize image a.entries.now ws k (values l.files)) gives (l.invariant.contents j told)))
+    (c.in-Err.ensures.fault j (l.invariant.told ∙ told))
+    (subst (λ (ws : List Walked). ContentsTo a.place.now.bsize image a.entries.now ws k (values l.files)) gives (l.invariant.contents j told))
 
 pub loop-tree-preserved : goal.loop-tree-preserved
 loop-tree-preserved g c =
@@ -130,7 +128,7 @@ loop-tree-preserved g c =
     let at = index_at a.entries.now c.len-nth.result k c.index-entries-nth.result nth c.index-entries-nth.is in
     let less : k < length a.entries.now = omega (arith, item.0, count) in
     let name_is : c.file_of.result.entry.name ≡ c.index-entries-nth.result.name = ap (λ (f : HeldFile). f.entry.name) c.file_of.ensures.is in
-    let sizes = c.in_ok-told.ensures in
+    let sizes = c.in-Ok.ensures in
     record {
       trees = append_assoc l.yielded (c.in-Some.tree ∷ []) _ ∙ rw (← steps) l.invariant.trees;
       len = omega arith;
@@ -139,7 +137,7 @@ loop-tree-preserved g c =
           let image = image_of (contents_of j a.place.now.unit) in
           rw (values_are, one)
           (subst (λ (ws : List Walked). ContentsTo a.place.now.bsize image a.entries.now ws (k + 1) (values l.files ++ (c.file_of.result ∷ []))) (sym gives)
-          (contents_next a.place.now.bsize image a.entries.now a.trees.items k (c.len-nth.result + 2) c.index-entries-nth.result c.in-Some.tree c.deref.result.now c.in_ok-told.told
+          (contents_next a.place.now.bsize image a.entries.now a.trees.items k (c.len-nth.result + 2) c.index-entries-nth.result c.in-Some.tree c.deref.result.now c.in-Ok.told
           (values l.files) c.file_of.result
           less at item.0 item.1 (omega (arith, nth)) leaves c.file_of.ensures.is
           (sizes.read j (l.invariant.told ∙ told))
@@ -152,7 +150,7 @@ loop-tree-preserved g c =
           ∙ (sym (map_push (λ (x : Entry). x.name) (take k a.entries.now) c.index-entries-nth.result)
           ∙ ap (map (λ (x : Entry). x.name)) (sym (taken_next a.entries.now k c.index-entries-nth.result less at))))));
       each = rw values_are (All-push (IsKeptFile a.place.now.bsize a.place.now.total) (values l.files) c.file_of.result l.invariant.each
-          (file_kept a.place.now.bsize a.place.now.total c.index-entries-nth.result c.in-Some.tree c.in_ok-told.told c.file_of.result c.file_of.ensures.is
+          (file_kept a.place.now.bsize a.place.now.total c.index-entries-nth.result c.in-Some.tree c.in-Ok.told c.file_of.result c.file_of.ensures.is
           (subst (λ (x : Entry). passes a.place.now.bsize x ≡ true) (sym at) (c.requires.entries k c.index-entries-nth.result less))
           c.file_of.ensures.spelled
           (subst (HasSize a.place.now.bsize) (sym at) (c.requires.sizes k c.index-entries-nth.result less))
@@ -162,7 +160,7 @@ loop-tree-preserved g c =
           (subst (IsWithin a.place.now.total None) (sym item.1) (c.requires.within k c.in-Some.tree item.0)).pointers
           sizes.some sizes.longest sizes.fixed sizes.stored
           sizes.sized
-          (subst (λ (l : List ℕ). EndsIn a.place.now.bsize (length l) c.in_ok-told.told.sizes.stored) leaves sizes.ends)));
+          (subst (λ (l : List ℕ). EndsIn a.place.now.bsize (length l) c.in-Ok.told.sizes.stored) leaves sizes.ends)));
       told = sizes.reads.told ∙ l.invariant.told;
       faults = omega (arith, sizes.reads.faults, l.invariant.faults);
       edges = sizes.reads.edges ∙ l.invariant.edges;
@@ -183,35 +181,20 @@ returns-clause-read g c = λ j told.
     contents_last a.place.now.bsize image a.entries.now a.trees.items k (values l.files) (omega (arith, long, count)) (omega (arith, long))
     (subst (λ (ws : List Walked). ContentsTo a.place.now.bsize image a.entries.now ws k (values l.files)) gives (l.invariant.contents j told))
 
-pub returns-in_err-told-clause-read : goal.returns-in_err-told-clause-read
-returns-in_err-told-clause-read g c = ok_at_err _ c.from_residual.result _ c.from_residual.ensures.1
-
-pub returns-in_err-told-clause-names : goal.returns-in_err-told-clause-names
-returns-in_err-told-clause-names g c = ok_at_err _ c.from_residual.result _ c.from_residual.ensures.1
-
-pub returns-in_err-told-clause-few : goal.returns-in_err-told-clause-few
-returns-in_err-told-clause-few g c = ok_at_err _ c.from_residual.result _ c.from_residual.ensures.1
-
-pub returns-in_err-told-clause-total : goal.returns-in_err-told-clause-total
-returns-in_err-told-clause-total g c = ok_at_err _ c.from_residual.result _ c.from_residual.ensures.1
-
-pub returns-in_err-told-clause-each : goal.returns-in_err-told-clause-each
-returns-in_err-told-clause-each g c = ok_at_err _ c.from_residual.result _ c.from_residual.ensures.1
-
 pub returns-in_err-insert-clause-read : goal.returns-in_err-insert-clause-read
-returns-in_err-insert-clause-read g c = ok_at_err _ c.from_residual-in_err-insert.result _ c.from_residual-in_err-insert.ensures.1
+returns-in_err-insert-clause-read g c = ok_at_err _ c.from_residual.result _ c.from_residual.ensures.1
 
 pub returns-in_err-insert-clause-names : goal.returns-in_err-insert-clause-names
-returns-in_err-insert-clause-names g c = ok_at_err _ c.from_residual-in_err-insert.result _ c.from_residual-in_err-insert.ensures.1
+returns-in_err-insert-clause-names g c = ok_at_err _ c.from_residual.result _ c.from_residual.ensures.1
 
 pub returns-in_err-insert-clause-few : goal.returns-in_err-insert-clause-few
-returns-in_err-insert-clause-few g c = ok_at_err _ c.from_residual-in_err-insert.result _ c.from_residual-in_err-insert.ensures.1
+returns-in_err-insert-clause-few g c = ok_at_err _ c.from_residual.result _ c.from_residual.ensures.1
 
 pub returns-in_err-insert-clause-total : goal.returns-in_err-insert-clause-total
-returns-in_err-insert-clause-total g c = ok_at_err _ c.from_residual-in_err-insert.result _ c.from_residual-in_err-insert.ensures.1
+returns-in_err-insert-clause-total g c = ok_at_err _ c.from_residual.result _ c.from_residual.ensures.1
 
 pub returns-in_err-insert-clause-each : goal.returns-in_err-insert-clause-each
-returns-in_err-insert-clause-each g c = ok_at_err _ c.from_residual-in_err-insert.result _ c.from_residual-in_err-insert.ensures.1
+returns-in_err-insert-clause-each g c = ok_at_err _ c.from_residual.result _ c.from_residual.ensures.1
 
 pub read_sizes-requires-clause-size : goal.read_sizes-requires-clause-size
 read_sizes-requires-clause-size g c =
@@ -226,19 +209,19 @@ read_sizes-requires-clause-size g c =
     let at = index_at a.entries.now c.len-nth.result k c.index-entries-nth.result nth c.index-entries-nth.is in
     subst (HasSize a.place.now.bsize) (sym at) (c.requires.sizes k c.index-entries-nth.result (less_of k (length a.trees.items) (length a.entries.now) item.0 c.requires.count))
 
-pub returns-in_err-told-clause-reads : goal.returns-in_err-told-clause-reads
-returns-in_err-told-clause-reads g c =
+pub returns-in-Err-clause-reads : goal.returns-in-Err-clause-reads
+returns-in-Err-clause-reads g c =
     let l = c.loop-tree.invariant in
-    reads_at_err c.from_residual.result _ c.from_residual.ensures.1 (reads_behind _ l.told l.faults l.edges c.in_err-told.ensures.reads)
+    reads_at_err (Err c.in-Err.fault) _ refl (reads_behind _ l.told l.faults l.edges c.in-Err.ensures.reads)
 
 pub returns-in_err-insert-clause-fault : goal.returns-in_err-insert-clause-fault
 returns-in_err-insert-clause-fault g c =
-    same_at_err c.from_residual-in_err-insert.result _ c.in_err-insert.field-0.0 c.from_residual-in_err-insert.ensures.1 (λ j told. fault_memory _ _ c.in_err-insert.ensures.fault)
+    same_at_err c.from_residual.result _ c.in_err-insert.field-0.0 c.from_residual.ensures.1 (λ j told. fault_memory _ _ c.in_err-insert.ensures.fault)
 
 pub returns-in_err-insert-clause-reads : goal.returns-in_err-insert-clause-reads
 returns-in_err-insert-clause-reads g c =
     let l = c.loop-tree.invariant in
-    memory_at_err c.from_residual-in_err-insert.result _ c.from_residual-in_err-insert.ensures.1 c.in_err-insert.ensures.fault (reads_behind _ l.told l.faults l.edges c.in_ok-told.ensures.reads)
+    memory_at_err c.from_residual.result _ c.from_residual.ensures.1 c.in_err-insert.ensures.fault (reads_behind _ l.told l.faults l.edges c.in-Ok.ensures.reads)
 
 pub returns-clause-names : goal.returns-clause-names
 returns-clause-names g c = c.loop-tree.invariant.named
@@ -268,3 +251,21 @@ returns-clause-few g c =
     let empty : into_iter_items l.tree-iterator ≡ [] = nil_from_length _ (sym l.invariant.len ∙ none.0) in
     let all : l.yielded ≡ c.args.trees.items = sym (append-nil l.yielded) ∙ (ap (λ (r : List Walked). l.yielded ++ r) (sym empty) ∙ (l.invariant.trees ∙ gives)) in
     subst (λ (n : ℕ). n ≤ most_files) (sym (length-values_of l.files.entries ∙ (l.invariant.many ∙ (ap (λ (r : List Walked). length r) all ∙ c.requires.count)))) c.requires.few
+
+pub returns-clause-fault : goal.returns-clause-fault
+returns-clause-fault g c = tt
+
+pub returns-in-Err-clause-read : goal.returns-in-Err-clause-read
+returns-in-Err-clause-read g c = tt
+
+pub returns-in-Err-clause-names : goal.returns-in-Err-clause-names
+returns-in-Err-clause-names g c = tt
+
+pub returns-in-Err-clause-few : goal.returns-in-Err-clause-few
+returns-in-Err-clause-few g c = tt
+
+pub returns-in-Err-clause-total : goal.returns-in-Err-clause-total
+returns-in-Err-clause-total g c = tt
+
+pub returns-in-Err-clause-each : goal.returns-in-Err-clause-each
+returns-in-Err-clause-each g c = tt

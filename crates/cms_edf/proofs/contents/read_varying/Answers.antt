@@ -174,3 +174,6 @@ returns-clause-longest g c = c.in_ok-sizes.ensures.longest
 
 pub returns-clause-stored : goal.returns-clause-stored
 returns-clause-stored g c = c.in_ok-sizes.ensures.stored
+
+pub returns-clause-fault : goal.returns-clause-fault
+returns-clause-fault g c = tt

@@ -1,7 +1,7 @@
 use Rattle.std.proofs.lemmas.Result.{IfOk-weaker}
 use Rattle.cms_edf.proofs.DraftPut.{new_is_some}
-use Rattle.std.proofs.Common.{subst}
-use Rattle.std.specs.Prelude.{IfOk}
+use Rattle.std.proofs.Common.{Err, Ok, Result, refl, subst}
+use Rattle.std.specs.Prelude.{IfOk, OnOk}
 use Rattle.cms_held.specs.HeldVolumes.{HeldVolume}
 use Rattle.cms_held.specs.FileWriters.{IsFresh}
 use Rattle.cms_edf.specs.FileDrafts.{IsDraftFor, tree_of}
@@ -46,3 +46,37 @@ returns-clause-volume c = c.reserve.ensures.volume
 
 pub returns-clause-places : goal.returns-clause-places
 returns-clause-places c = c.reserve.ensures.places
+
+on_any : {T E : Type 0} {P : Type 0} (r : Result T E) → P → OnOk r P
+on_any (Ok x) p = p
+on_any (Err e) p = tt
+
+pub returns-in-Some-passed_limit-clause-planned : goal.returns-in-Some-passed_limit-clause-planned
+returns-in-Some-passed_limit-clause-planned c = tt
+
+pub returns-in_default-reserve-clause-planned : goal.returns-in_default-reserve-clause-planned
+returns-in_default-reserve-clause-planned c = tt
+
+pub returns-in-Some-passed_limit-clause-some : goal.returns-in-Some-passed_limit-clause-some
+returns-in-Some-passed_limit-clause-some c = tt
+
+pub returns-in_default-reserve-clause-some : goal.returns-in_default-reserve-clause-some
+returns-in_default-reserve-clause-some c = tt
+
+pub returns-in-Some-passed_limit-clause-fresh : goal.returns-in-Some-passed_limit-clause-fresh
+returns-in-Some-passed_limit-clause-fresh c = tt
+
+pub returns-in_default-reserve-clause-fresh : goal.returns-in_default-reserve-clause-fresh
+returns-in_default-reserve-clause-fresh c = tt
+
+pub returns-in-Some-passed_limit-clause-spare : goal.returns-in-Some-passed_limit-clause-spare
+returns-in-Some-passed_limit-clause-spare c = tt
+
+pub returns-in_default-reserve-clause-spare : goal.returns-in_default-reserve-clause-spare
+returns-in_default-reserve-clause-spare c = tt
+
+pub returns-in-Some-passed_limit-clause-volume : goal.returns-in-Some-passed_limit-clause-volume
+returns-in-Some-passed_limit-clause-volume c = refl
+
+pub returns-clause-spare : goal.returns-clause-spare
+returns-clause-spare c = on_any c.plan_file.result c.in-Ok.ensures.spare

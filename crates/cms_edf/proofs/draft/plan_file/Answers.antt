@@ -182,3 +182,30 @@ returns-clause-fresh c =
     let w = c.in-Ok-new.writer in
     subst (λ (h : Held). IsFresh h.volume.unit h.volume.disk.bsize c.args.asked.now w.writer.tree w) c.held.view_is
     (subst (λ (t : HeldTree). IsFresh c.held.inside.unit c.held.inside.bsize c.args.asked.now t w) (sym fresh.tree_is) fresh)
+
+pub returns-in-Err-clause-planned : goal.returns-in-Err-clause-planned
+returns-in-Err-clause-planned c = tt
+
+pub returns-in-Err-clause-fresh : goal.returns-in-Err-clause-fresh
+returns-in-Err-clause-fresh c = tt
+
+pub returns-in_default-clause-planned : goal.returns-in_default-clause-planned
+returns-in_default-clause-planned c = tt
+
+pub returns-in_default-clause-fresh : goal.returns-in_default-clause-fresh
+returns-in_default-clause-fresh c = tt
+
+pub returns-in_default-plan_entry-clause-planned : goal.returns-in_default-plan_entry-clause-planned
+returns-in_default-plan_entry-clause-planned c = tt
+
+pub returns-in_default-plan_entry-clause-fresh : goal.returns-in_default-plan_entry-clause-fresh
+returns-in_default-plan_entry-clause-fresh c = tt
+
+pub returns-in_default-new-clause-planned : goal.returns-in_default-new-clause-planned
+returns-in_default-new-clause-planned c = tt
+
+pub returns-in_default-new-clause-fresh : goal.returns-in_default-new-clause-fresh
+returns-in_default-new-clause-fresh c = tt
+
+pub returns-clause-full : goal.returns-clause-full
+returns-clause-full c = tt

@@ -224,3 +224,6 @@ returns-in-Err-clause-sound g c = subst (λ (d : Draft). IsDrafting d.writer) c.
 
 pub returns-in-Err-clause-kept : goal.returns-in-Err-clause-kept
 returns-in-Err-clause-kept g c = refl
+
+pub returns-in-Err-clause-volume : goal.returns-in-Err-clause-volume
+returns-in-Err-clause-volume g c = tt

@@ -35,3 +35,12 @@ returns-in-Ok-clause-moments g c = λ j volid stamp told empty ready. made_empty
 
 pub returns-in-Err-clause-moments : goal.returns-in-Err-clause-moments
 returns-in-Err-clause-moments g c = λ j volid stamp told empty ready. made_empty j c.args.plan volid stamp empty ready
+
+pub returns-in-Ok-clause-cut_off : goal.returns-in-Ok-clause-cut_off
+returns-in-Ok-clause-cut_off g c = tt
+
+pub returns-in-Err-clause-done : goal.returns-in-Err-clause-done
+returns-in-Err-clause-done g c = tt
+
+pub returns-in-Err-clause-held : goal.returns-in-Err-clause-held
+returns-in-Err-clause-held g c = tt

@@ -1,5 +1,6 @@
 -- What is put together is an empty volume.
-use Rattle.std.proofs.Common.{◌≤◌, ◌/◌, [], length, refl, rules, arith}
+use Rattle.std.proofs.Common.{◌≡◌, ◌≤◌, ◌<◌, ◌^◌, ◌/◌, ℕ, [], length, refl, ap, rules, arith}
+use Rattle.cms_held.specs.HeldVolumes.{HeldTree}
 use Rattle.cms_held.specs.EmptyVolumes.{MakePlan, IsEmptyVolume}
 use Rattle.cms_held.proofs.Allotted.{map_small, nodes_few}
 use Rattle.cms_held.proofs.Made.{made_kept}
@@ -108,3 +109,34 @@ returns-clause-unit c = refl
 
 pub returns-clause-disk : goal.returns-clause-disk
 returns-clause-disk c = refl
+
+size_high : (n : ℕ) → 512 ≤ n → 80 ≤ n
+size_high n least = omega arith
+
+few_ones : (n : ℕ) → n ≡ 1 → n < 2 ^ 32
+few_ones n is = omega arith
+
+few_none : (n : ℕ) → n ≡ 0 → n < 2 ^ 32
+few_none n is = omega arith
+
+pub label_block-requires-clause-size : goal.label_block-requires-clause-size
+label_block-requires-clause-size c = size_high _ c.bytes.ensures.least
+
+pub label_block-requires-clause-stamp : goal.label_block-requires-clause-stamp
+label_block-requires-clause-stamp c = c.requires.stamp
+
+pub directory_block-requires-clause-stamp : goal.directory_block-requires-clause-stamp
+directory_block-requires-clause-stamp c = c.requires.stamp
+
+pub directory_block-requires-clause-directory : goal.directory_block-requires-clause-directory
+directory_block-requires-clause-directory c = ap (λ (t : HeldTree). length t.leaves) c.in_ok-directory.ensures
+
+pub of_whole-requires-clause-few : goal.of_whole-requires-clause-few
+of_whole-requires-clause-few c = few_ones _ (ap (λ (t : HeldTree). length t.leaves) c.in_ok-directory.ensures)
+
+pub of_whole-requires-clause-few_nodes : goal.of_whole-requires-clause-few_nodes
+of_whole-requires-clause-few_nodes c = few_none _ (ap (λ (t : HeldTree). length t.pointers) c.in_ok-directory.ensures)
+
+pub returns-clause-empty : goal.returns-clause-empty
+unfolding made
+returns-clause-empty c = empty c

@@ -58,3 +58,9 @@ returns-in_err-push-clause-fault c =
 pub returns-in_err-push-clause-device : goal.returns-in_err-push-clause-device
 returns-in_err-push-clause-device c =
     same_at_err c.from_residual-in_err-push.result _ c.in_err-push.field-0.0 c.from_residual-in_err-push.ensures.1 (memory_is_none _ c.in_err-push.ensures.fault)
+
+pub returns-clause-fault : goal.returns-clause-fault
+returns-clause-fault c = tt
+
+pub returns-clause-device : goal.returns-clause-device
+returns-clause-device c = tt

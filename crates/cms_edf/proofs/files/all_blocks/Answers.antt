@@ -35,3 +35,6 @@ returns-in_err-append-2-clause-fault c = same_at_err c.from_residual-in_err-appe
 
 pub returns-in_err-append-3-clause-fault : goal.returns-in_err-append-3-clause-fault
 returns-in_err-append-3-clause-fault c = same_at_err c.from_residual-in_err-append-3.result _ _ c.from_residual-in_err-append-3.ensures.1 c.in_err-append-3.ensures.fault
+
+pub returns-clause-fault : goal.returns-clause-fault
+returns-clause-fault c = tt

@@ -171,3 +171,6 @@ returns-in_err-climb-clause-reads g c =
 
 pub returns-clause-reads : goal.returns-clause-reads
 returns-clause-reads g c = reads_at_ok _ (reads_then c.in_ok-block.ensures.reads c.in_ok-climb.ensures.reads)
+
+pub returns-clause-fault : goal.returns-clause-fault
+returns-clause-fault g c = tt

@@ -136,7 +136,7 @@ plan_entry-requires-clause-entry c =
     let at : slice_get v.files c.args.place ≡ Some file = subst (λ (h : Held). slice_get h.volume.files c.args.place ≡ Some file) c.held.view_is c.index-file.ensures in
     let size : c.held.inside.bsize ≡ v.disk.bsize = ap (λ (h : Held). h.volume.disk.bsize) c.held.view_is in
     let growth : IsGrowthOf v.disk.bsize file c.args.asked.now g = subst (λ (n : ℕ). IsGrowthOf n file c.args.asked.now g) size c.growth_of-growth.ensures in
-    let count = c.in_ok-tree.ensures.count in
+    let count = c.in-Ok.ensures.count in
     let is = c.entry_for-entry.ensures v.disk.bsize (growth.levels_are ∙ (λ i. levels (growth.fan_is i) (sym count i))) in
     let can = (c.requires.grows.grows file at).can in
     subst CanWrite (sym is) (can.number, can.stamp)
@@ -148,11 +148,11 @@ returns-clause-planned c =
     let g = c.growth_of-growth.result in
     let places = c.in_ok-places.places in
     let a = c.in_ok-allotment in
-    let tree = c.in_ok-tree.tree in
+    let tree = c.in-Ok.tree in
     let at : slice_get v.files c.args.place ≡ Some file = subst (λ (h : Held). slice_get h.volume.files c.args.place ≡ Some file) c.held.view_is c.index-file.ensures in
     let size : c.held.inside.bsize ≡ v.disk.bsize = ap (λ (h : Held). h.volume.disk.bsize) c.held.view_is in
     let growth : IsGrowthOf v.disk.bsize file c.args.asked.now g = subst (λ (n : ℕ). IsGrowthOf n file c.args.asked.now g) size c.growth_of-growth.ensures in
-    let count = c.in_ok-tree.ensures.count in
+    let count = c.in-Ok.ensures.count in
     let old : c.tree-old.result.now ≡ file.tree = c.tree-old.ensures in
     let written : c.deref.result.now ≡ places.leaves = c.deref.ensures.value ∙ ap (λ (p : TreePart). p.leaves) c.places-2.view_is in
     let numbers : c.deref-3.result.now ≡ a.allotment.file.items = c.deref-3.ensures.value in
@@ -171,9 +171,9 @@ returns-clause-planned c =
       growth = growth;
       places_are = c.in_ok-places.ensures.leaves;
       nodes_are = c.in_ok-places.ensures.nodes;
-      keeps = subst (λ (t : HeldTree). KeepsTree g.fan places.leaves t tree) old c.in_ok-tree.ensures.keeps;
+      keeps = subst (λ (t : HeldTree). KeepsTree g.fan places.leaves t tree) old c.in-Ok.ensures.keeps;
       leaves = count;
-      fresh = (λ i. fresh_of g.fan places.leaves (sym old i) tree) ∙ (c.in_ok-tree.ensures.fresh ∙ ap (take (length places.leaves + length places.nodes)) numbers);
+      fresh = (λ i. fresh_of g.fan places.leaves (sym old i) tree) ∙ (c.in-Ok.ensures.fresh ∙ ap (take (length places.leaves + length places.nodes)) numbers);
       entry = c.entry_for-entry.ensures v.disk.bsize (growth.levels_are ∙ (λ i. levels (growth.fan_is i) (sym count i)));
       filled = c.in_ok-systems.ensures;
     })
@@ -186,9 +186,6 @@ returns-in_err-left-clause-planned c = ok_at_err _ c.from_residual-in_err-left.r
 
 pub returns-in_err-allotment-clause-planned : goal.returns-in_err-allotment-clause-planned
 returns-in_err-allotment-clause-planned c = ok_at_err _ c.from_residual-in_err-allotment.result _ c.from_residual-in_err-allotment.ensures.1
-
-pub returns-in_err-tree-clause-planned : goal.returns-in_err-tree-clause-planned
-returns-in_err-tree-clause-planned c = ok_at_err _ c.from_residual-in_err-tree.result _ c.from_residual-in_err-tree.ensures.1
 
 pub returns-in_err-systems-clause-planned : goal.returns-in_err-systems-clause-planned
 returns-in_err-systems-clause-planned c = ok_at_err _ c.from_residual-in_err-systems.result _ c.from_residual-in_err-systems.ensures.1
@@ -307,18 +304,18 @@ shared_tree-requires-clause-enough c =
     all_of_same (length places.leaves + length places.nodes) c.written_count.result (length c.deref-3.result.now)
     (ap (λ (l : List ℕ). length l) c.deref-3.ensures.value ∙ c.in_ok-allotment.ensures.allotted.file) c.written_count.ensures
 
-pub returns-in_err-tree-clause-full : goal.returns-in_err-tree-clause-full
-returns-in_err-tree-clause-full c =
-    err_at_err _ c.from_residual-in_err-tree.result _ c.from_residual-in_err-tree.ensures.1 (λ e is f at. no_memory c.args.held.now.volume c.args.place c.args.asked.now e is f at)
+pub returns-in_default-clause-full : goal.returns-in_default-clause-full
+returns-in_default-clause-full c =
+    λ f at. no_memory c.args.held.now.volume c.args.place c.args.asked.now _ refl f at
 
 pub entry_for-entry-requires-clause-some : goal.entry_for-entry-requires-clause-some
 entry_for-entry-requires-clause-some c =
     let g = c.growth_of-growth.result in
-    subst (λ (n : ℕ). 1 ≤ n) (sym c.in_ok-tree.ensures.count) (some_above g.kept g.count c.growth_of-growth.ensures.less)
+    subst (λ (n : ℕ). 1 ≤ n) (sym c.in-Ok.ensures.count) (some_above g.kept g.count c.growth_of-growth.ensures.less)
 
 pub entry_for-entry-requires-clause-few : goal.entry_for-entry-requires-clause-few
 entry_for-entry-requires-clause-few c =
-    subst (λ (n : ℕ). n < 2 ^ 32) (sym c.in_ok-tree.ensures.count)
+    subst (λ (n : ℕ). n < 2 ^ 32) (sym c.in-Ok.ensures.count)
     (count_few c.held.inside.bsize c.index-file.result.now c.args.asked.now c.growth_of-growth.result c.held.invariant.kept.sized c.growth_of-growth.ensures)
 
 pub plan_entry-requires-clause-stamp : goal.plan_entry-requires-clause-stamp
@@ -342,3 +339,9 @@ plan_entry-requires-clause-map_few c = c.in_ok-allotment.ensures.map_few
 pub returns-in_err-systems-clause-full : goal.returns-in_err-systems-clause-full
 returns-in_err-systems-clause-full c =
     err_at_err _ c.from_residual-in_err-systems.result _ c.from_residual-in_err-systems.ensures.1 (λ e is f at. no_memory c.args.held.now.volume c.args.place c.args.asked.now e is f at)
+
+pub returns-clause-full : goal.returns-clause-full
+returns-clause-full c = tt
+
+pub returns-in_default-clause-planned : goal.returns-in_default-clause-planned
+returns-in_default-clause-planned c = tt

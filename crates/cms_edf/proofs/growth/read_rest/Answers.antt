@@ -1,7 +1,7 @@
-use Rattle.std.proofs.Common.{rules, ◌≡◌, ◌++◌, ◌-◌, ◌%◌, ◌<◌, ◌≤◌, ℕ, List, length, take, drop, replicate, get_or, sym, ◌∙◌, ap, arith, mod-lt}
+use Rattle.std.proofs.Common.{rules, ◌≡◌, ◌++◌, ◌-◌, ◌%◌, ◌<◌, ◌≤◌, ℕ, zero, suc, List, length, take, drop, replicate, get_or, refl, sym, ◌∙◌, ap, subst, arith, mod-lt}
 use Rattle.std.specs.Prelude.{slice_index}
 use Rattle.std.proofs.lemmas.List.{take_at}
-use Rattle.cms_journal.specs.Journal.{block_of, contents_of}
+use Rattle.cms_journal.specs.Journal.{HasBlock, block_of, contents_of}
 use Rattle.cms_model.specs.Trees.{image_of}
 use Rattle.cms_model.proofs.Images.{block_in_image}
 use Rattle.cms_held.specs.Drafts.{filled}
@@ -78,3 +78,35 @@ returns-clause-zeros g c = λ none.
 
 pub returns-clause-reads : goal.returns-clause-reads
 returns-clause-reads g c = reads_at_ok _ c.in_ok-block.ensures.reads
+
+some_rest : (n : ℕ) → (n ≡ 0 → ⊥) → 1 ≤ n
+some_rest zero none = absurd (none refl)
+some_rest (suc n) none = omega arith
+
+some_bytes : (bytes size : ℕ) → bytes ≡ size → 512 ≤ bytes → 1 ≤ size
+some_bytes bytes size is least = omega arith
+
+pub returns-in_default-clause-bytes : goal.returns-in_default-clause-bytes
+returns-in_default-clause-bytes g c = tt
+
+pub returns-in_default-clause-zeros : goal.returns-in_default-clause-zeros
+returns-in_default-clause-zeros g c = tt
+
+pub returns-in_default-clause-long : goal.returns-in_default-clause-long
+returns-in_default-clause-long g c = tt
+
+pub read_block-requires : goal.read_block-requires
+read_block-requires g c = λ j told.
+    let a = c.args in
+    let v = a.held.now.volume in
+    let leaves = a.file.now.tree.leaves in
+    let size : c.held.inside.bsize ≡ v.disk.bsize = ap (λ (h : Held). h.volume.disk.bsize) c.held.view_is in
+    let unit : c.held.inside.unit ≡ v.unit = ap (λ (h : Held). h.volume.unit) c.held.view_is in
+    let bytes : c.bytes-bsize.result ≡ v.disk.bsize = c.bytes-bsize.ensures.value ∙ size in
+    let rest : c.file.inside.size % c.bytes-bsize.result ≡ a.file.now.size % v.disk.bsize = (λ i. ap (λ (f : HeldFile). f.size) c.file.view_is i % bytes i) in
+    let more = some_rest _ (λ none. c.if-filled-eq0.false (rest ∙ none)) in
+    let less = rest_within v.disk.bsize a.file.now.size a.kept (length leaves) (some_bytes _ _ bytes c.bytes-bsize.ensures.least) c.requires.kept c.requires.room more in
+    let leaf : get_or c.leaves.result.now a.kept 0 ≡ slice_index leaves a.kept = ap (λ (l : List ℕ). get_or l a.kept 0) c.leaves.ensures in
+    subst (λ (u : ℕ). HasBlock j.units u (get_or c.leaves.result.now a.kept 0) c.bytes-bsize.result) (sym unit)
+    (subst (λ (n : ℕ). HasBlock j.units v.unit n c.bytes-bsize.result) (sym leaf)
+    (subst (λ (b : ℕ). HasBlock j.units v.unit (slice_index leaves a.kept) b) (sym bytes) (c.requires.blocks j told a.kept less)))

@@ -1,4 +1,4 @@
-use Rattle.std.proofs.Common.{rules, ◌≡◌, ◌-◌, ◌/◌, ℕ, List, [], Ok, Err, Some, None, sym, ◌∙◌, ap, subst, drop}
+use Rattle.std.proofs.Common.{rules, ◌≡◌, ◌-◌, ◌/◌, ℕ, List, [], Ok, Err, Some, None, sym, ◌∙◌, ap, subst, drop, length}
 use Rattle.std.proofs.lemmas.Result.{err_from_is_err_and}
 use Rattle.cms_journal.specs.Journal.{Journal, contents_of}
 use Rattle.cms_model.specs.Trees.{image_of, bytes_at}
@@ -6,7 +6,7 @@ use Rattle.cms_model.specs.Lists.{cut}
 use Rattle.cms_model.specs.Sizes.{pointer_count}
 use Rattle.cms_model.specs.Volumes.{entries_of, first_twice, absent}
 use Rattle.cms_model.specs.declared.fault.OpenFault.TheVariants as failed
-use Rattle.cms_model.specs.Systems.{directory_of, map_of}
+use Rattle.cms_model.specs.Systems.{SystemFile, directory_of, map_of}
 use Rattle.cms_tree.specs.Walks.{tree_at, nodes_at, IsWithin}
 use Rattle.cms_tree.specs.declared.types.TreeAt.{TreeAt}
 use Rattle.cms_held.specs.HeldVolumes.{IsFaultOf}
@@ -14,6 +14,7 @@ use Rattle.cms_edf.specs.OpeningSteps.{met_in, system_at}
 use Rattle.cms_edf.proofs.Listings.{HasEntries, HasTree, counts_are, directory_fault, tree_fault, map_fault, entries_fault, names_fault, listed_so, tree_has, leaf_block, few_files}
 use Rattle.cms_edf.proofs.Exits.{ok_at_err, other_at_err, reads_at_err, reads_at_ok, reads_then}
 use Rattle.cms_edf.proofs.EntryTests.{entries_shaped, entries_small, entries_pass, entries_stand}
+use Rattle.cms_fields.specs.declared.entry.Entry.{Entry}
 use Rattle.cms_edf.proofs.listing.read_listing.Given as given
 use Rattle.cms_edf.proofs.listing.read_listing.Goals as goal
 use Rattle.cms_edf.proofs.listing.read_listing.Goals.{After-map_in, After-names_once}
@@ -58,14 +59,15 @@ returns-in_err-map-clause-read g c = λ j told.
     let image = image_of (contents_of j place.unit) in
     let p = err_from_is_err_and c.from_residual-in_err-map.result c.from_residual-in_err-map.ensures.1 in
     let first : c.in_ok-first.first.items ≡ image place.origin = c.in_ok-first.ensures.bytes j told in
-    let bad : map_of place.bsize place.total (drop 64 c.in_ok-first.first.items) ≡ Err c.in_err-map.field-0.0 = search rules in
+    let bad : map_of place.bsize place.total (drop 64 c.in_ok-first.first.items) ≡ Err c.in_err-map.field-0.0 = ap (map_of place.bsize place.total) (sym (c.after.ensures.bytes ∙ ap (drop 64) c.deref-2.ensures.value)) ∙ sym c.in_err-map.ensures.is in
     rw (p.1, p.2) (map_fault place image c.in_ok-directory.directory (met_in c.in_ok-walked.walked) c.in_err-map.field-0.0
     (has_tree g (goal.at.returns-in_err-map-clause-read g c).After-map_in j told) (rw first at bad))
 
 pub directory_bytes-requires-clause-blocks : goal.directory_bytes-requires-clause-blocks
 directory_bytes-requires-clause-blocks g c = λ j told k less.
     leaf_block j c.args.place.now.unit c.args.place.now.total c.args.place.now.origin c.args.place.now.bsize c.in_ok-walked.walked c.deref-3.result.now k
-    (search rules) less c.requires.total c.requires.origin (search rules)
+    c.deref-3.ensures.value less c.requires.total c.requires.origin
+    (subst (λ (x : TreeAt). IsWithin x.volume x.first c.in_ok-walked.walked) c.system_at-at.ensures c.in_ok-walked.ensures.within)
     (c.requires.blocks j (sym c.in_ok-first.ensures.reads.told ∙ (sym c.in_ok-walked.ensures.reads.told ∙ told)))
 
 pub returns-in_err-entries-clause-read : goal.returns-in_err-entries-clause-read
@@ -74,17 +76,19 @@ returns-in_err-entries-clause-read g c = λ j told.
     let image = image_of (contents_of j place.unit) in
     let p = err_from_is_err_and c.from_residual-in_err-entries.result c.from_residual-in_err-entries.ensures.1 in
     let first : c.in_ok-first.first.items ≡ image place.origin = c.in_ok-first.ensures.bytes j told in
-    let map_is : map_of place.bsize place.total (drop 64 c.in_ok-first.first.items) ≡ Ok c.in_ok-map.map = search rules in
+    let map_is : map_of place.bsize place.total (drop 64 c.in_ok-first.first.items) ≡ Ok c.in_ok-map.map = ap (map_of place.bsize place.total) (sym (c.after.ensures.bytes ∙ ap (drop 64) c.deref-2.ensures.value)) ∙ sym c.in_ok-map.ensures.is in
     let bytes : c.in_ok-bytes.bytes.items ≡ bytes_at image c.in_ok-walked.walked.leaves.items =
     c.in_ok-bytes.ensures.bytes j (c.in_ok-walked.ensures.reads.told ∙ (c.in_ok-first.ensures.reads.told ∙ told)) ∙ ap (bytes_at image) c.deref-3.ensures.value in
-    let bad : IsFaultOf (entries_of place.bsize 2 (cut (c.in_ok-directory.directory.count - 2) 64 (drop 128 c.in_ok-bytes.bytes.items))) c.in_err-entries.field-0.0 = search rules in
+    let bad : IsFaultOf (entries_of place.bsize 2 (cut (c.in_ok-directory.directory.count - 2) 64 (drop 128 c.in_ok-bytes.bytes.items))) c.in_err-entries.field-0.0 =
+    subst (λ (n : ℕ). IsFaultOf (entries_of place.bsize 2 (cut (n - 2) 64 (drop 128 c.in_ok-bytes.bytes.items))) c.in_err-entries.field-0.0) (ap (λ (d : SystemFile). d.count) c.directory.view_is)
+    (subst (λ (bs : List ℕ). IsFaultOf (entries_of place.bsize 2 (cut (c.directory.inside.count - 2) 64 bs)) c.in_err-entries.field-0.0) (c.after-2.ensures.bytes ∙ ap (drop 128) c.deref-5.ensures.value) c.in_err-entries.ensures.fault) in
     rw (p.1, p.2) (entries_fault place image c.in_ok-directory.directory c.in_ok-map.map (met_in c.in_ok-walked.walked) c.in_err-entries.field-0.0
     (has_tree g (goal.at.returns-in_err-entries-clause-read g c).After-map_in j told)
     (rw first at map_is)
     (subst (λ (bs : List ℕ). IsFaultOf (entries_of place.bsize 2 (cut (c.in_ok-directory.directory.count - 2) 64 (drop 128 bs))) c.in_err-entries.field-0.0) bytes bad))
 
 pub names_once-requires : goal.names_once-requires
-names_once-requires g c = few_files c.in_ok-directory.directory.count _ (search rules) (c.in_ok-directory.ensures.count.1)
+names_once-requires g c = few_files c.in_ok-directory.directory.count _ (ap (λ (es : List Entry). length es) c.deref-6.ensures.value ∙ c.in_ok-entries.ensures.count ∙ ap (λ (d : SystemFile). d.count - 2) c.directory.view_is) c.in_ok-directory.ensures.count.1
 
 -- the entries were read so
 has_entries : (g : given.Over) (c : After-names_once g) (j : Journal) → g.W.World.told c.args.world.now ≡ Some j
@@ -94,10 +98,11 @@ has_entries g c j told tree =
     let place = c.args.place.now in
     let image = image_of (contents_of j place.unit) in
     let first : c.in_ok-first.first.items ≡ image place.origin = c.in_ok-first.ensures.bytes j told in
-    let map_is : map_of place.bsize place.total (drop 64 c.in_ok-first.first.items) ≡ Ok c.in_ok-map.map = search rules in
+    let map_is : map_of place.bsize place.total (drop 64 c.in_ok-first.first.items) ≡ Ok c.in_ok-map.map = ap (map_of place.bsize place.total) (sym (c.after.ensures.bytes ∙ ap (drop 64) c.deref-2.ensures.value)) ∙ sym c.in_ok-map.ensures.is in
     let bytes : c.in_ok-bytes.bytes.items ≡ bytes_at image c.in_ok-walked.walked.leaves.items =
     c.in_ok-bytes.ensures.bytes j (c.in_ok-walked.ensures.reads.told ∙ (c.in_ok-first.ensures.reads.told ∙ told)) ∙ ap (bytes_at image) c.deref-3.ensures.value in
-    let entries : entries_of place.bsize 2 (cut (c.in_ok-directory.directory.count - 2) 64 (drop 128 c.in_ok-bytes.bytes.items)) ≡ Ok c.in_ok-entries.entries.items = search rules in (
+    let entries : entries_of place.bsize 2 (cut (c.in_ok-directory.directory.count - 2) 64 (drop 128 c.in_ok-bytes.bytes.items)) ≡ Ok c.in_ok-entries.entries.items =
+    (λ i. entries_of place.bsize 2 (cut (sym (ap (λ (d : SystemFile). d.count) c.directory.view_is) i - 2) 64 (sym (c.after-2.ensures.bytes ∙ ap (drop 128) c.deref-5.ensures.value) i))) ∙ c.in_ok-entries.ensures.entries in (
       tree,
       rw first at map_is,
       subst (λ (bs : List ℕ). entries_of place.bsize 2 (cut (c.in_ok-directory.directory.count - 2) 64 (drop 128 bs)) ≡ Ok c.in_ok-entries.entries.items) bytes entries,
@@ -106,7 +111,8 @@ has_entries g c j told tree =
 pub returns-in_err-names_once-clause-read : goal.returns-in_err-names_once-clause-read
 returns-in_err-names_once-clause-read g c = λ j told.
     let p = err_from_is_err_and c.from_residual-in_err-names_once.result c.from_residual-in_err-names_once.ensures.1 in
-    let bad : IsFaultOf (absent (first_twice 2 [] c.in_ok-entries.entries.items) failed.Twice) c.in_err-names_once.field-0.0 = search rules in
+    let bad : IsFaultOf (absent (first_twice 2 [] c.in_ok-entries.entries.items) failed.Twice) c.in_err-names_once.field-0.0 =
+    subst (λ (es : List Entry). IsFaultOf (absent (first_twice 2 [] es) failed.Twice) c.in_err-names_once.field-0.0) c.deref-6.ensures.value c.in_err-names_once.ensures.fault in
     rw (p.1, p.2) (names_fault c.args.place.now _ c.in_ok-directory.directory c.in_ok-map.map (met_in c.in_ok-walked.walked) c.in_ok-entries.entries.items c.in_err-names_once.field-0.0
     (let at = goal.at.returns-in_err-names_once-clause-read g c in has_entries g at.After-names_once j told (has_tree g at.After-map_in j told)) bad)
 
@@ -115,7 +121,7 @@ returns-clause-read g c = λ j told.
     let place = c.args.place.now in
     let at : c.system_at-at.result ≡ system_at place c.in_ok-directory.directory (Some place.origin) = c.system_at-at.ensures in
     let read = c.in_ok-walked.ensures.read j (c.in_ok-first.ensures.reads.told ∙ told) in
-    let once : first_twice 2 [] c.in_ok-entries.entries.items ≡ None = search rules in (
+    let once : first_twice 2 [] c.in_ok-entries.entries.items ≡ None = ap (first_twice 2 []) (sym c.deref-6.ensures.value) ∙ c.in_ok-names_once.ensures.ok in (
       listed_so place _ c.in_ok-directory.directory c.in_ok-map.map (met_in c.in_ok-walked.walked) c.in_ok-entries.entries.items
           (let at' = goal.at.returns-clause-read g c in has_entries g at'.After-names_once j told (has_tree g at'.After-map_in j told)) once,
       subst (λ (x : TreeAt). c.in_ok-walked.walked.pointers.items ≡ nodes_at (image_of (contents_of j x.unit)) x) at read.1,
@@ -139,13 +145,14 @@ returns-clause-holds g c =
       pointers = walked.pointers ∙ ap (λ (x : TreeAt). pointer_count (x.bsize / x.psize) x.count) at;
       small = (directory.few, map.few);
       counts = counts_are place.bsize place.origin place.total _ c.in_ok-first.first.items (drop 64 c.in_ok-first.first.items) c.in_ok-directory.directory c.in_ok-map.map
-          directory.size (search rules) (search rules) (search rules);
-      room_for_entries = entries_stand _ c.in_ok-directory.directory.count c.in_ok-directory.directory.blocks _ place.bsize (search rules) directory.count.0 directory.count.2 leaves;
+          directory.size (ap (directory_of place.bsize place.origin) (sym c.deref.ensures.value) ∙ sym c.in_ok-directory.ensures.is)
+          (ap (map_of place.bsize place.total) (sym (c.after.ensures.bytes ∙ ap (drop 64) c.deref-2.ensures.value)) ∙ sym c.in_ok-map.ensures.is) (c.in_ok-entries.ensures.count ∙ ap (λ (d : SystemFile). d.count - 2) c.directory.view_is);
+      room_for_entries = entries_stand _ c.in_ok-directory.directory.count c.in_ok-directory.directory.blocks _ place.bsize (c.in_ok-entries.ensures.count ∙ ap (λ (d : SystemFile). d.count - 2) c.directory.view_is) directory.count.0 directory.count.2 leaves;
       shapes = entries_shaped place.bsize _ c.in_ok-entries.entries.items directory.size entries.entries;
       sizes = entries_small place.bsize _ c.in_ok-entries.entries.items directory.size entries.entries;
       passing = entries_pass place.bsize 2 _ c.in_ok-entries.entries.items entries.entries;
-      names = search rules;
-      few = few_files c.in_ok-directory.directory.count _ (search rules) directory.count.1;
+      names = ap (first_twice 2 []) (sym c.deref-6.ensures.value) ∙ c.in_ok-names_once.ensures.ok;
+      few = few_files c.in_ok-directory.directory.count _ (c.in_ok-entries.ensures.count ∙ ap (λ (d : SystemFile). d.count - 2) c.directory.view_is) directory.count.1;
       within = subst (λ (x : TreeAt). IsWithin x.volume x.first c.in_ok-walked.walked) at walked.within;
     }
 

@@ -51,3 +51,6 @@ pub returns-clause-reads : goal.returns-clause-reads
 returns-clause-reads g c =
     let l = c.loop-nth.invariant in
     reads_so_far _ _ _ l.told l.faults l.edges
+
+pub returns-clause-fault : goal.returns-clause-fault
+returns-clause-fault g c = tt

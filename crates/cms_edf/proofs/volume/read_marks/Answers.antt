@@ -126,3 +126,6 @@ returns-clause-lost g c = λ j told.
 
 pub returns-clause-reads : goal.returns-clause-reads
 returns-clause-reads g c = reads_at_ok _ c.in_ok-bytes.ensures.reads
+
+pub returns-clause-fault : goal.returns-clause-fault
+returns-clause-fault g c = tt

@@ -109,3 +109,6 @@ returns-clause-pointers g c = c.in_ok-map.ensures.pointers
 
 pub returns-clause-reads : goal.returns-clause-reads
 returns-clause-reads g c = reads_at_ok _ (reads_then c.in_ok-map.ensures.reads c.in_ok-files.ensures.reads)
+
+pub returns-clause-fault : goal.returns-clause-fault
+returns-clause-fault g c = tt

@@ -1,7 +1,7 @@
 use Rattle.std.proofs.Common.{◌≡◌, inl, inr, ℕ, ◌+◌, ◌-◌, ◌*◌, ◌^◌, ◌≤◌, min, List, [], ◌∷◌, ◌++◌, length, Result, Ok, Err, refl, sym, ◌∙◌, ap, subst, arith, Vec, Global, vec_len, ◌<◌, suc, mul-le-mul_right}
 use Rattle.std.specs.Prelude.{⊤}
 use Rattle.std.specs.Result.{OnOk}
-use Rattle.std.proofs.Math.Nat.{one-le-pow, pow-zero}
+use Rattle.std.proofs.Math.Nat.{min-le_left, one-le-pow, pow-zero}
 use Rattle.std.proofs.lemmas.Result.{err_from_is_err_and}
 use Rattle.cms_journal.specs.Journal.{contents_of}
 use Rattle.cms_text.specs.Bytes.{word}
@@ -290,3 +290,12 @@ pub returns-clause-reads : goal.returns-clause-reads
 returns-clause-reads g t c =
     let l = c.loop-place.invariant in
     reads_so_far _ _ _ l.told l.later l.edges
+
+some_fan : (fan : ℕ) → 2 ≤ fan → 1 ≤ fan
+some_fan fan wide = omega arith
+
+pub size_below-size-requires-clause-some : goal.size_below-size-requires-clause-some
+size_below-size-requires-clause-some g t c = some_fan _ c.requires.fan
+
+pub overflow_sub-left : goal.overflow_sub-left
+overflow_sub-left g t c = subst (λ (n : ℕ). n ≤ c.loop-place.left) (sym c.part_of.ensures) (min-le_left c.loop-place.left c.size_below-size.result)

@@ -1,5 +1,7 @@
-use Rattle.std.proofs.Common.{refl}
-use Rattle.cms_tree.proofs.Exits.{holds_at_err, memory_only, ok_at_err, plain_at_err, reads_at_err}
+use Rattle.std.proofs.Common.{◌++◌, ◌∙◌, ℕ, List, ap, refl}
+use Rattle.cms_tree.proofs.Exits.{appends_at_err, holds_at_err, memory_only, ok_at_err, plain_at_err, reads_at_err, reads_at_ok}
+use Rattle.cms_tree.specs.declared.types.TreeFault.TheVariants.{Memory}
+use Rattle.cms_tree.specs.Walks.{image_at}
 use Rattle.cms_tree.proofs.read.leaves.Goals as goal
 
 pub returns-clause-pointers_within : goal.returns-clause-pointers_within
@@ -95,3 +97,35 @@ returns-in_err-extend_from_slice-2-clause-leaves_within g c = ok_at_err _ c.from
 pub returns-in_err-extend_from_slice-2-clause-reads : goal.returns-in_err-extend_from_slice-2-clause-reads
 returns-in_err-extend_from_slice-2-clause-reads g c =
     plain_at_err _ c.from_residual-in_err-extend_from_slice-2.result c.from_residual-in_err-extend_from_slice-2.ensures.1 (λ e is device. memory_only e is device) c.in_ok-walked.ensures.reads
+
+pub returns-in_err-walked-clause-read : goal.returns-in_err-walked-clause-read
+returns-in_err-walked-clause-read g c = λ j told. appends_at_err (image_at j c.args.at.now) c.args.at.now c.args.pointers.now.items c.args.pointers.now.items c.args.leaves.now.items c.args.leaves.now.items c.from_residual.result _ c.from_residual.ensures.1 (c.in_err-walked.ensures.read j told)
+
+pub returns-in_err-reserve-clause-read : goal.returns-in_err-reserve-clause-read
+returns-in_err-reserve-clause-read g c = λ j told. appends_at_err (image_at j c.args.at.now) c.args.at.now c.args.pointers.now.items c.reserve.new.self.items c.args.leaves.now.items c.args.leaves.now.items c.from_residual-in_err-reserve.result Memory c.from_residual-in_err-reserve.ensures.1 tt
+
+pub returns-in_err-extend_from_slice-clause-read : goal.returns-in_err-extend_from_slice-clause-read
+returns-in_err-extend_from_slice-clause-read g c = λ j told. appends_at_err (image_at j c.args.at.now) c.args.at.now c.args.pointers.now.items c.reserve.new.self.items c.args.leaves.now.items c.extend_from_slice.new.self.items c.from_residual-in_err-extend_from_slice.result Memory c.from_residual-in_err-extend_from_slice.ensures.1 tt
+
+pub returns-in_err-extend_from_slice-2-clause-read : goal.returns-in_err-extend_from_slice-2-clause-read
+returns-in_err-extend_from_slice-2-clause-read g c = λ j told. appends_at_err (image_at j c.args.at.now) c.args.at.now c.args.pointers.now.items c.extend_from_slice-2.new.self.items c.args.leaves.now.items c.extend_from_slice.new.self.items c.from_residual-in_err-extend_from_slice-2.result Memory c.from_residual-in_err-extend_from_slice-2.ensures.1 tt
+
+pub returns-clause-read : goal.returns-clause-read
+returns-clause-read g c = λ j told.
+    let read = c.in_ok-walked.ensures.read j told in
+    let p = c.in_ok-extend_from_slice-2.ensures.items in
+    let l = c.in_ok-extend_from_slice.ensures.items in
+    let before = c.in_ok-reserve.ensures.items in
+    let pointers = c.deref-2.ensures.value in
+    let leaves = c.deref.ensures.value in (
+      record { blocks = c.in_ok-walked.walked.blocks.items; leaves = c.in_ok-walked.walked.leaves.items },
+      read.0,
+      p ∙ (λ i. before i ++ (pointers ∙ read.1) i),
+      l ∙ ap (λ (ns : List ℕ). c.args.leaves.now.items ++ ns) leaves,
+    )
+
+pub returns-clause-err : goal.returns-clause-err
+returns-clause-err g c = tt
+
+pub returns-clause-reads : goal.returns-clause-reads
+returns-clause-reads g c = reads_at_ok _ c.in_ok-walked.ensures.reads

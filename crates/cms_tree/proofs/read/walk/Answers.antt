@@ -14,11 +14,12 @@ use Rattle.cms_tree.specs.declared.read.MetBlocks.{MetBlocks}
 use Rattle.cms_tree.specs.declared.read.Tier.{Tier}
 use Rattle.cms_tree.specs.Levels.{over_count}
 use Rattle.cms_tree.specs.Parts.{form_of, met_of, blocks_in}
-use Rattle.cms_tree.specs.Walks.{AreWithin, form_at, levels_at, nodes, nodes_at, tree_at}
+use Rattle.cms_tree.specs.Walks.{AreWithin, form_at, image_at, levels_at, nodes, nodes_at, tree_at}
 use Rattle.cms_tree.proofs.ClimbSteps.{over_all}
 use Rattle.cms_tree.proofs.Rest.{length-blocks_in, more_sum, walk_read}
 use Rattle.cms_tree.specs.declared.types.TreeFault.TheVariants.{Device}
-use Rattle.cms_tree.proofs.Exits.{err_at_err, memory_only, ok_at_err, plain_at_err, reads_at_err, reads_at_ok, reads_none}
+use Rattle.cms_tree.specs.declared.types.TreeFault.TheVariants.{Memory}
+use Rattle.cms_tree.proofs.Exits.{tree_at_err, err_at_err, memory_only, ok_at_err, plain_at_err, reads_at_err, reads_at_ok, reads_none}
 use Rattle.cms_tree.proofs.read.walk.Given as given
 use Rattle.cms_tree.proofs.read.walk.Goals as goal
 use Rattle.cms_tree.proofs.read.walk.Goals.{After-drop-tiers-2}
@@ -149,3 +150,24 @@ returns-in_err-joined-clause-reads g c =
 
 pub returns-clause-reads : goal.returns-clause-reads
 returns-clause-reads g c = reads_at_ok _ c.in_ok-walk_from.ensures.reads
+
+pub layout_of-layout-requires : goal.layout_of-layout-requires
+layout_of-layout-requires g c = record { psize = c.requires.psize }
+
+pub shape-levels-requires-clause-wide : goal.shape-levels-requires-clause-wide
+shape-levels-requires-clause-wide g c = c.layout_of-layout.ensures.fan.0
+
+pub returns-in_err-tiers-clause-read : goal.returns-in_err-tiers-clause-read
+returns-in_err-tiers-clause-read g c = λ j told. tree_at_err (image_at j c.args.at.now) c.args.at.now c.from_residual.result Memory c.from_residual.ensures.1 tt
+
+pub returns-in_err-joined-clause-read : goal.returns-in_err-joined-clause-read
+returns-in_err-joined-clause-read g c = λ j told. tree_at_err (image_at j c.args.at.now) c.args.at.now c.from_residual-in_err-joined.result Memory c.from_residual-in_err-joined.ensures.1 tt
+
+pub walk_from-requires-clause-fan : goal.walk_from-requires-clause-fan
+walk_from-requires-clause-fan g c = c.layout_of-layout.ensures.fan.0
+
+pub walk_from-requires-clause-stride : goal.walk_from-requires-clause-stride
+walk_from-requires-clause-stride g c = c.layout_of-layout.ensures.stride.0
+
+pub walk_from-requires-clause-fits : goal.walk_from-requires-clause-fits
+walk_from-requires-clause-fits g c = c.layout_of-layout.ensures.stride.1

@@ -20,3 +20,6 @@ returns-in_err-new-clause-first c = ok_at_err _ c.from_residual-in_err-new.resul
 
 pub returns-in_err-new-clause-fault : goal.returns-in_err-new-clause-fault
 returns-in_err-new-clause-fault c = err_at_err _ c.from_residual-in_err-new.result (λ e. e ≡ Memory) c.from_residual-in_err-new.ensures.1 (λ e is. is)
+
+pub returns-clause-fault : goal.returns-clause-fault
+returns-clause-fault c = tt

@@ -154,3 +154,21 @@ returns-in_err-read-clause-again g c = λ is some. absurd (ok_err (c.in_ok-take.
 
 pub returns-clause-again : goal.returns-clause-again
 returns-clause-again g c = λ is some. absurd (ok_err (c.in_ok-take.ensures.again (c.loop-self.invariant.altered ∙ is)))
+
+pub returns-then-self-eq0-clause-waits : goal.returns-then-self-eq0-clause-waits
+returns-then-self-eq0-clause-waits g c = tt
+
+pub returns-then-self-eq0-clause-fault : goal.returns-then-self-eq0-clause-fault
+returns-then-self-eq0-clause-fault g c = tt
+
+pub returns-then-self-eq0-clause-marked : goal.returns-then-self-eq0-clause-marked
+returns-then-self-eq0-clause-marked g c = tt
+
+pub returns-clause-waits : goal.returns-clause-waits
+returns-clause-waits g c = tt
+
+pub returns-clause-fault : goal.returns-clause-fault
+returns-clause-fault g c = tt
+
+pub returns-clause-marked : goal.returns-clause-marked
+returns-clause-marked g c = tt

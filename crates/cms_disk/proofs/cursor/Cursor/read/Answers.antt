@@ -173,3 +173,42 @@ pub returns-in-Err-clause-reads : goal.returns-in-Err-clause-reads
 returns-in-Err-clause-reads g c =
     let e = c.in-Err.ensures in
     record { told = e.told; faults = e.cause.later; edges = e.edges; cause = λ is. e.cause.failed }
+
+pub returns-then-self-len-clause-read : goal.returns-then-self-len-clause-read
+returns-then-self-len-clause-read g c = tt
+
+pub returns-then-self-len-clause-sound : goal.returns-then-self-len-clause-sound
+returns-then-self-len-clause-sound g c = tt
+
+pub returns-then-self-len-clause-done : goal.returns-then-self-len-clause-done
+returns-then-self-len-clause-done g c = tt
+
+pub returns-then-self-len-clause-from : goal.returns-then-self-len-clause-from
+returns-then-self-len-clause-from g c = tt
+
+pub returns-in-Ok-clause-stays : goal.returns-in-Ok-clause-stays
+returns-in-Ok-clause-stays g c = tt
+
+pub returns-in-Ok-clause-altered : goal.returns-in-Ok-clause-altered
+returns-in-Ok-clause-altered g c = tt
+
+pub returns-in-Ok-clause-unread : goal.returns-in-Ok-clause-unread
+returns-in-Ok-clause-unread g c = tt
+
+pub returns-in-Ok-clause-fault : goal.returns-in-Ok-clause-fault
+returns-in-Ok-clause-fault g c = tt
+
+pub returns-in-Ok-clause-marked : goal.returns-in-Ok-clause-marked
+returns-in-Ok-clause-marked g c = tt
+
+pub returns-in-Err-clause-read : goal.returns-in-Err-clause-read
+returns-in-Err-clause-read g c = tt
+
+pub returns-in-Err-clause-sound : goal.returns-in-Err-clause-sound
+returns-in-Err-clause-sound g c = tt
+
+pub returns-in-Err-clause-done : goal.returns-in-Err-clause-done
+returns-in-Err-clause-done g c = tt
+
+pub returns-in-Err-clause-from : goal.returns-in-Err-clause-from
+returns-in-Err-clause-from g c = tt

@@ -102,9 +102,8 @@ put_records-requires-clause-ready g c = λ k told.
     let same = made.reads.told in
     can_write k.units c.args.self.now.volume c.in_ok-draft.draft made.some (c.requires.blocks k (sym same ∙ told)) (c.requires.writable made.writable k (sym same ∙ told))
 
-pub returns-in_err-put_records-clause-appends : goal.returns-in_err-put_records-clause-appends
-returns-in_err-put_records-clause-appends g c = λ j m records told is stands.
-    let p = err_from_is_err_and c.from_residual-in_err-put_records.result c.from_residual-in_err-put_records.ensures.1 in
+pub returns-in-Err-clause-appends : goal.returns-in-Err-clause-appends
+returns-in-Err-clause-appends g c = λ j m records told is stands.
     let old = g.W.World.told c.args.world.now in
     let new = g.W.World.told c.put_records.new.world in
     let d = c.args.self.now in
@@ -118,9 +117,9 @@ returns-in_err-put_records-clause-appends g c = λ j m records told is stands.
     let at = behind_at j d m name more records shape is stands c.requires.fits s in
     let change = Add name records shape.stamp in
     let goes = made.begins j m at.file records told is at.named at.have in
-    let given = c.in_err-put_records.ensures.puts old e m change stamp [] records stands goes in
-    subst (λ (z : Stamp). Appends old new d e m (Add name records z) stamp c.from_residual-in_err-put_records.result) (ap (λ (z : DraftShape). z.stamp) s.shape_is)
-    (subst (Appends old new d e m change stamp) (sym (p.1 ∙ ap Err (p.2 ∙ c.in_err-put_records.ensures.fault)))
+    let given = c.in-Err.ensures.puts old e m change stamp [] records stands goes in
+    subst (λ (z : Stamp). Appends old new d e m (Add name records z) stamp (Err c.in-Err.fault)) (ap (λ (z : DraftShape). z.stamp) s.shape_is)
+    (subst (Appends old new d e m change stamp) (sym (ap Err c.in-Err.ensures.fault))
     (inr (given_up old new e e m change stamp (changed m change) given (made.answers j m at.file records is (c.requires.blocks j told) at.named at.have.counts)
     (added_none name records shape.stamp) (refl, refl) refl)))
 
@@ -131,7 +130,7 @@ commit-requires-clause-blocks g c = λ k told.
     let same = made.reads.told in
     subst (λ (v : HeldVolume). HasBlocks k.units v.unit v.disk.count v.disk.bsize) (sym volume)
     (units_kept (λ (units : List Attached). HasBlocks units c.args.self.now.volume.unit c.args.self.now.volume.disk.count c.args.self.now.volume.disk.bsize) _ _
-    c.in_ok-put_records.ensures.changes.grown (λ j is. c.requires.blocks j (sym same ∙ is)) k told)
+    c.in-Ok.ensures.changes.grown (λ j is. c.requires.blocks j (sym same ∙ is)) k told)
 
 pub commit-requires-clause-writable : goal.commit-requires-clause-writable
 commit-requires-clause-writable g c = λ k told.
@@ -139,11 +138,11 @@ commit-requires-clause-writable g c = λ k told.
     let volume = ap (λ (a : Accessed). a.volume) made.kept in
     let same = made.reads.told in
     subst (λ (v : HeldVolume). IsWritable k.units v.unit) (sym volume)
-    (units_kept (λ (units : List Attached). IsWritable units c.args.self.now.volume.unit) _ _ c.in_ok-put_records.ensures.changes.grown
+    (units_kept (λ (units : List Attached). IsWritable units c.args.self.now.volume.unit) _ _ c.in-Ok.ensures.changes.grown
     (λ j is. c.requires.writable made.writable j (sym same ∙ is)) k told)
 
-pub returns-clause-appends : goal.returns-clause-appends
-returns-clause-appends g c = λ j m records told is stands.
+pub returns-in-Ok-clause-appends : goal.returns-in-Ok-clause-appends
+returns-in-Ok-clause-appends g c = λ j m records told is stands.
     let old = g.W.World.told c.args.world.now in
     let new = g.W.World.told c.commit.new.world in
     let d = c.args.self.now in
@@ -159,7 +158,7 @@ returns-clause-appends g c = λ j m records told is stands.
     let writable = ap (λ (a : Accessed). a.writable) made.kept in
     let change = Add name records shape.stamp in
     let begun = made.begins j m at.file records told is at.named at.have in
-    let goes = c.in_ok-put_records.ensures.puts old e m change stamp [] records stands begun in
+    let goes = c.in-Ok.ensures.puts old e m change stamp [] records stands begun in
     subst (λ (z : Stamp). Appends old new d c.commit.new.self m (Add name records z) stamp c.commit.result) (ap (λ (z : DraftShape). z.stamp) s.shape_is)
     (appends_of old new d c.commit.new.self m change stamp c.commit.result
     (alters_same old new d e c.commit.new.self m change stamp c.commit.result volume writable (c.commit.ensures.alters old m change stamp records goes)))
@@ -191,40 +190,34 @@ returns-in_err-draft-clause-changes g c =
     subst (ChangesDisk a b c.args.self.now c.draft_more_at.new.self) (sym (p.1 ∙ ap Err p.2))
     (changed_read Draft a b c.args.self.now c.draft_more_at.new.self c.args.name.now c.in_ok-shape.shape c.in_err-draft.field-0.0 made.reads made.fault made.kept)
 
-pub returns-in_err-put_records-clause-fault : goal.returns-in_err-put_records-clause-fault
-returns-in_err-put_records-clause-fault g c =
-    let p = err_from_is_err_and c.from_residual-in_err-put_records.result c.from_residual-in_err-put_records.ensures.1 in
+pub returns-in-Err-clause-fault : goal.returns-in-Err-clause-fault
+returns-in-Err-clause-fault g c =
     let d = c.args.self.now in
     let name = c.args.name.now in
     let more = c.args.more.now in
     let shape = c.in_ok-shape.shape in
     let s = shaped_at d.volume name c.args.place more shape c.requires.there c.in_ok-shape.ensures.shape c.in_ok-shape.ensures.can in
-    subst (λ (r : Result ⊤ DiskFault). IfErr r (IsAddFault d name more)) (sym (p.1 ∙ ap Err p.2))
-    (device_fault d name more shape s c.in_ok-draft.ensures.room c.in_err-put_records.field-0.0 (inl c.in_err-put_records.ensures.fault))
+    device_fault d name more shape s c.in_ok-draft.ensures.room c.in-Err.fault (inl c.in-Err.ensures.fault)
 
-pub returns-in_err-put_records-clause-read_only : goal.returns-in_err-put_records-clause-read_only
-returns-in_err-put_records-clause-read_only g c =
-    let p = err_from_is_err_and c.from_residual-in_err-put_records.result c.from_residual-in_err-put_records.ensures.1 in
+pub returns-in-Err-clause-read_only : goal.returns-in-Err-clause-read_only
+returns-in-Err-clause-read_only g c =
     let d = c.args.self.now in
-    let why = c.in_err-put_records.field-0.0 in
-    subst (λ (r : Result ⊤ DiskFault). IfErr r (λ (e : DiskFault). e ≡ ReadOnly → d.writable ≡ false)) (sym (p.1 ∙ ap Err p.2))
-    (λ same. absurd (not_read_only why (inl c.in_err-put_records.ensures.fault) same))
+    let why = c.in-Err.fault in
+    λ same. absurd (not_read_only why (inl c.in-Err.ensures.fault) same)
 
-pub returns-in_err-put_records-clause-changes : goal.returns-in_err-put_records-clause-changes
-returns-in_err-put_records-clause-changes g c =
-    let p = err_from_is_err_and c.from_residual-in_err-put_records.result c.from_residual-in_err-put_records.ensures.1 in
+pub returns-in-Err-clause-changes : goal.returns-in-Err-clause-changes
+returns-in-Err-clause-changes g c =
     let a = seen g.W.World c.args.world.now in
     let b = seen g.W.World c.draft_more_at.new.world in
     let f = seen g.W.World c.put_records.new.world in
     let d = c.args.self.now in
     let e = c.draft_more_at.new.self in
     let made = c.in_ok-draft.ensures in
-    let why = c.in_err-put_records.field-0.0 in
-    subst (ChangesDisk a f d e) (sym (p.1 ∙ ap Err p.2))
-    (changed_then a b f d e e (Ok c.in_ok-draft.draft) (Err why) made.reads made.kept (changed_put b f e why c.in_err-put_records.ensures.changes))
+    let why = c.in-Err.fault in
+    changed_then a b f d e e (Ok c.in_ok-draft.draft) (Err why) made.reads made.kept (changed_put b f e why c.in-Err.ensures.changes)
 
-pub returns-clause-fault : goal.returns-clause-fault
-returns-clause-fault g c =
+pub returns-in-Ok-clause-fault : goal.returns-in-Ok-clause-fault
+returns-in-Ok-clause-fault g c =
     let d = c.args.self.now in
     let name = c.args.name.now in
     let more = c.args.more.now in
@@ -232,35 +225,35 @@ returns-clause-fault g c =
     let s = shaped_at d.volume name c.args.place more shape c.requires.there c.in_ok-shape.ensures.shape c.in_ok-shape.ensures.can in
     if_err c.commit.result IsDevices (IsAddFault d name more) (device_fault d name more shape s c.in_ok-draft.ensures.room) c.commit.ensures.fault
 
-pub returns-clause-read_only : goal.returns-clause-read_only
-returns-clause-read_only g c =
+pub returns-in-Ok-clause-read_only : goal.returns-in-Ok-clause-read_only
+returns-in-Ok-clause-read_only g c =
     if_err c.commit.result IsDevices (λ (e : DiskFault). e ≡ ReadOnly → c.args.self.now.writable ≡ false) (λ e device same. absurd (not_read_only e device same)) c.commit.ensures.fault
 
-pub returns-clause-changes : goal.returns-clause-changes
-returns-clause-changes g c =
+pub returns-in-Ok-clause-changes : goal.returns-in-Ok-clause-changes
+returns-in-Ok-clause-changes g c =
     let a = seen g.W.World c.args.world.now in
     let b = seen g.W.World c.draft_more_at.new.world in
     let f = seen g.W.World c.put_records.new.world in
     let h = seen g.W.World c.commit.new.world in
     let made = c.in_ok-draft.ensures in
     changed_then a b h c.args.self.now c.draft_more_at.new.self c.commit.new.self (Ok c.in_ok-draft.draft) c.commit.result made.reads made.kept
-    (changed_both b f h c.draft_more_at.new.self c.commit.new.self c.commit.result (Ok tt) c.in_ok-put_records.ensures.changes c.commit.ensures.changes)
+    (changed_both b f h c.draft_more_at.new.self c.commit.new.self c.commit.result (Ok tt) c.in-Ok.ensures.changes c.commit.ensures.changes)
 
 pub commit-requires-clause-planned : goal.commit-requires-clause-planned
 commit-requires-clause-planned g c =
     let made = c.in_ok-draft.ensures in
     subst (λ (v : HeldVolume). IsSomeDraft v c.put_records.new.draft) (sym (ap (λ (a : Accessed). a.volume) made.kept))
-    (same_some c.args.self.now.volume c.in_ok-draft.draft c.put_records.new.draft c.in_ok-put_records.ensures.same made.some)
+    (same_some c.args.self.now.volume c.in_ok-draft.draft c.put_records.new.draft c.in-Ok.ensures.same made.some)
 
-pub returns-clause-holds : goal.returns-clause-holds
-returns-clause-holds g c =
+pub returns-in-Ok-clause-holds : goal.returns-in-Ok-clause-holds
+returns-in-Ok-clause-holds g c =
     let d = c.args.self.now in
     let name = c.args.name.now in
     let more = c.args.more.now in
     let made = c.in_ok-draft.ensures in
     let volume = ap (λ (a : Accessed). a.volume) made.kept in
     let s = shaped_at d.volume name c.args.place more c.in_ok-shape.shape c.requires.there c.in_ok-shape.ensures.shape c.in_ok-shape.ensures.can in
-    let planned = same_more d.volume name s.file c.in_ok-shape.shape c.args.stamp.now c.in_ok-draft.draft c.put_records.new.draft c.in_ok-put_records.ensures.same (made.planned s.file s.is) in
+    let planned = same_more d.volume name s.file c.in_ok-shape.shape c.args.stamp.now c.in_ok-draft.draft c.put_records.new.draft c.in-Ok.ensures.same (made.planned s.file s.is) in
     on_ok c.commit.result
     (λ leads info bytes told. subst (λ (x : DraftShape). IsPutIn d.volume name x c.commit.new.self.volume) (shape_told d.volume name more c.in_ok-shape.shape info bytes s told)
     (more_in d.volume c.commit.new.self.volume name s.file c.in_ok-shape.shape c.args.stamp.now c.put_records.new.draft planned
@@ -273,5 +266,8 @@ returns-in_err-shape-clause-holds g c = ok_at_err _ c.from_residual.result _ c.f
 pub returns-in_err-draft-clause-holds : goal.returns-in_err-draft-clause-holds
 returns-in_err-draft-clause-holds g c = ok_at_err _ c.from_residual-in_err-draft.result _ c.from_residual-in_err-draft.ensures.1
 
-pub returns-in_err-put_records-clause-holds : goal.returns-in_err-put_records-clause-holds
-returns-in_err-put_records-clause-holds g c = ok_at_err _ c.from_residual-in_err-put_records.result _ c.from_residual-in_err-put_records.ensures.1
+pub returns-in-Err-clause-holds : goal.returns-in-Err-clause-holds
+returns-in-Err-clause-holds g c = tt
+
+pub returns-then-not-is_writable-clause-holds : goal.returns-then-not-is_writable-clause-holds
+returns-then-not-is_writable-clause-holds g c = tt

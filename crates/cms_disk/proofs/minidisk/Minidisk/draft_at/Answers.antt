@@ -63,3 +63,21 @@ returns-in_err-draft-clause-begins c = ok_at_err _ c.from_residual.result _ c.fr
 
 pub returns-in_err-draft-clause-writable : goal.returns-in_err-draft-clause-writable
 returns-in_err-draft-clause-writable c = ok_at_err _ c.from_residual.result _ c.from_residual.ensures.1
+
+pub returns-then-not-is_writable-clause-planned : goal.returns-then-not-is_writable-clause-planned
+returns-then-not-is_writable-clause-planned c = tt
+
+pub returns-then-not-is_writable-clause-some : goal.returns-then-not-is_writable-clause-some
+returns-then-not-is_writable-clause-some c = tt
+
+pub returns-then-not-is_writable-clause-fresh : goal.returns-then-not-is_writable-clause-fresh
+returns-then-not-is_writable-clause-fresh c = tt
+
+pub returns-then-not-is_writable-clause-begins : goal.returns-then-not-is_writable-clause-begins
+returns-then-not-is_writable-clause-begins c = tt
+
+pub returns-then-not-is_writable-clause-writable : goal.returns-then-not-is_writable-clause-writable
+returns-then-not-is_writable-clause-writable c = tt
+
+pub returns-then-not-is_writable-clause-spare : goal.returns-then-not-is_writable-clause-spare
+returns-then-not-is_writable-clause-spare c = tt

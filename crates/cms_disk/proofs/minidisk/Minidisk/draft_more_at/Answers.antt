@@ -113,3 +113,24 @@ returns-in_err-draft-clause-room g c = ok_at_err _ c.from_residual.result _ c.fr
 
 pub returns-in_err-draft-clause-writable : goal.returns-in_err-draft-clause-writable
 returns-in_err-draft-clause-writable g c = ok_at_err _ c.from_residual.result _ c.from_residual.ensures.1
+
+pub returns-then-not-is_writable-clause-planned : goal.returns-then-not-is_writable-clause-planned
+returns-then-not-is_writable-clause-planned g c = tt
+
+pub returns-then-not-is_writable-clause-some : goal.returns-then-not-is_writable-clause-some
+returns-then-not-is_writable-clause-some g c = tt
+
+pub returns-then-not-is_writable-clause-behind : goal.returns-then-not-is_writable-clause-behind
+returns-then-not-is_writable-clause-behind g c = tt
+
+pub returns-then-not-is_writable-clause-begins : goal.returns-then-not-is_writable-clause-begins
+returns-then-not-is_writable-clause-begins g c = tt
+
+pub returns-then-not-is_writable-clause-room : goal.returns-then-not-is_writable-clause-room
+returns-then-not-is_writable-clause-room g c = tt
+
+pub returns-then-not-is_writable-clause-writable : goal.returns-then-not-is_writable-clause-writable
+returns-then-not-is_writable-clause-writable g c = tt
+
+pub returns-then-not-is_writable-clause-spare : goal.returns-then-not-is_writable-clause-spare
+returns-then-not-is_writable-clause-spare g c = tt

@@ -62,3 +62,9 @@ returns-then-not-has-clause-fault g c = inl refl
 
 pub returns-then-not-has-clause-absent : goal.returns-then-not-has-clause-absent
 returns-then-not-has-clause-absent g c = λ none. refl
+
+pub returns-then-not-has-clause-holds : goal.returns-then-not-has-clause-holds
+returns-then-not-has-clause-holds g c = tt
+
+pub returns-then-not-is_writable-clause-holds : goal.returns-then-not-is_writable-clause-holds
+returns-then-not-is_writable-clause-holds g c = tt

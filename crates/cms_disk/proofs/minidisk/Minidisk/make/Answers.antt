@@ -25,7 +25,7 @@ planned g c j before is ready = record {
   ready = ready;
   has = c.requires.blocks j is;
   least = c.requires.least;
-  wiped_is = c.in_ok-wipe.ensures.done;
+  wiped_is = c.in-Ok.ensures.done;
   unit_is = c.in_ok-plan.ensures.unit;
   disk_is = c.in_ok-plan.ensures.disk;
   empty = c.in_ok-plan.ensures.empty;
@@ -38,35 +38,30 @@ wipe-requires-clause-blocks g c = λ j told.
 
 -- ---- the wiping failed
 
-pub returns-in_err-wipe-clause-formats : goal.returns-in_err-wipe-clause-formats
-returns-in_err-wipe-clause-formats g c = λ j before is ready.
-    let p = err_from_is_err_and c.from_residual-in_err-wipe.result c.from_residual-in_err-wipe.ensures.1 in
-    let failed = c.in_err-wipe.ensures in
-    rw (p.1, p.2, failed.either) (wipe_doubted j _ _ c.args.unit.now before c.args.volid c.args.stamp.now is ready failed.cut_off)
+pub returns-in-Err-clause-formats : goal.returns-in-Err-clause-formats
+returns-in-Err-clause-formats g c = λ j before is ready.
+    let failed = c.in-Err.ensures in
+    rw (c.from.ensures, failed.either) (wipe_doubted j _ _ c.args.unit.now before c.args.volid c.args.stamp.now is ready failed.cut_off)
 
-pub returns-in_err-wipe-clause-quiet : goal.returns-in_err-wipe-clause-quiet
-returns-in_err-wipe-clause-quiet g c = λ j before is ready.
-    let p = err_from_is_err_and c.from_residual-in_err-wipe.result c.from_residual-in_err-wipe.ensures.1 in
-    rw (p.1, p.2, c.in_err-wipe.ensures.either) tt
+pub returns-in-Err-clause-quiet : goal.returns-in-Err-clause-quiet
+returns-in-Err-clause-quiet g c = λ j before is ready.
+    rw (c.from.ensures, c.in-Err.ensures.either) tt
 
-pub returns-in_err-wipe-clause-fault : goal.returns-in_err-wipe-clause-fault
-returns-in_err-wipe-clause-fault g c =
-    let p = err_from_is_err_and c.from_residual-in_err-wipe.result c.from_residual-in_err-wipe.ensures.1 in
-    rw (p.1, p.2) (make_fault c.in_err-wipe.field-0.0)
+pub returns-in-Err-clause-fault : goal.returns-in-Err-clause-fault
+returns-in-Err-clause-fault g c =
+    rw c.from.ensures (make_fault c.in-Err.doubt)
 
-pub returns-in_err-wipe-clause-nothing : goal.returns-in_err-wipe-clause-nothing
-returns-in_err-wipe-clause-nothing g c =
-    let p = err_from_is_err_and c.from_residual-in_err-wipe.result c.from_residual-in_err-wipe.ensures.1 in
-    rw (p.1, p.2) (λ memory. absurd (not_memory c.in_err-wipe.field-0.0 memory))
+pub returns-in-Err-clause-nothing : goal.returns-in-Err-clause-nothing
+returns-in-Err-clause-nothing g c =
+    rw c.from.ensures (λ memory. absurd (not_memory c.in-Err.doubt memory))
 
-pub returns-in_err-wipe-clause-of_unit : goal.returns-in_err-wipe-clause-of_unit
-returns-in_err-wipe-clause-of_unit g c = grown_cut_wipe c.args.unit.now.unit.number c.args.unit.now.bsize _ _ c.in_err-wipe.ensures.cut_off
+pub returns-in-Err-clause-of_unit : goal.returns-in-Err-clause-of_unit
+returns-in-Err-clause-of_unit g c = grown_cut_wipe c.args.unit.now.unit.number c.args.unit.now.bsize _ _ c.in-Err.ensures.cut_off
 
-pub returns-in_err-wipe-clause-changes : goal.returns-in_err-wipe-clause-changes
-returns-in_err-wipe-clause-changes g c =
-    let p = err_from_is_err_and c.from_residual-in_err-wipe.result c.from_residual-in_err-wipe.ensures.1 in
-    let counts = c.in_err-wipe.ensures.counts in
-    rw (p.1, p.2) (record { grown = grown_some (returns-in_err-wipe-clause-of_unit g c); faults = counts.cause.later; edges = counts.edges; cause = λ device. counts.cause.failed })
+pub returns-in-Err-clause-changes : goal.returns-in-Err-clause-changes
+returns-in-Err-clause-changes g c =
+    let counts = c.in-Err.ensures.counts in
+    rw c.from.ensures (record { grown = grown_some (returns-in-Err-clause-of_unit g c); faults = counts.cause.later; edges = counts.edges; cause = λ device. counts.cause.failed })
 
 -- ---- the making failed
 
@@ -102,7 +97,7 @@ returns-in_err-held-clause-of_unit g c =
     let told = g.W.World.told in
     let plan = c.in_ok-plan.plan in
     failed_grown c.args.unit.now.unit.number plan.unit c.args.unit.now.bsize (made_writes plan) plan.systems.label_bytes c.in_err-held.field-0.0 (told c.args.world.now)
-    (told c.wipe.new.world) (told c.make.new.world) c.in_ok-plan.ensures.unit c.in_ok-wipe.ensures.done c.in_err-held.ensures.cut_off
+    (told c.wipe.new.world) (told c.make.new.world) c.in_ok-plan.ensures.unit c.in-Ok.ensures.done c.in_err-held.ensures.cut_off
 
 pub returns-in_err-held-clause-changes : goal.returns-in_err-held-clause-changes
 returns-in_err-held-clause-changes g c =
@@ -137,7 +132,7 @@ returns-clause-quiet g c = λ j before is ready.
 pub returns-clause-of_unit : goal.returns-clause-of_unit
 returns-clause-of_unit g c =
     made_grown c.args.unit.now.unit.number c.in_ok-plan.plan.unit c.args.unit.now.bsize (made_writes c.in_ok-plan.plan) c.in_ok-plan.plan.systems.label_bytes _ _ _
-    c.in_ok-plan.ensures.unit c.in_ok-wipe.ensures.done c.in_ok-held.ensures.done
+    c.in_ok-plan.ensures.unit c.in-Ok.ensures.done c.in_ok-held.ensures.done
 
 pub returns-clause-changes : goal.returns-clause-changes
 returns-clause-changes g c =
@@ -153,14 +148,20 @@ returns-in_err-plan-clause-unit g c = ok_at_err _ c.from_residual.result _ c.fro
 pub returns-in_err-plan-clause-empty : goal.returns-in_err-plan-clause-empty
 returns-in_err-plan-clause-empty g c = ok_at_err _ c.from_residual.result _ c.from_residual.ensures.1
 
-pub returns-in_err-wipe-clause-unit : goal.returns-in_err-wipe-clause-unit
-returns-in_err-wipe-clause-unit g c = ok_at_err _ c.from_residual-in_err-wipe.result _ c.from_residual-in_err-wipe.ensures.1
-
-pub returns-in_err-wipe-clause-empty : goal.returns-in_err-wipe-clause-empty
-returns-in_err-wipe-clause-empty g c = ok_at_err _ c.from_residual-in_err-wipe.result _ c.from_residual-in_err-wipe.ensures.1
-
 pub returns-in_err-held-clause-unit : goal.returns-in_err-held-clause-unit
 returns-in_err-held-clause-unit g c = ok_at_err _ c.from_residual-in_err-held.result _ c.from_residual-in_err-held.ensures.1
 
 pub returns-in_err-held-clause-empty : goal.returns-in_err-held-clause-empty
 returns-in_err-held-clause-empty g c = ok_at_err _ c.from_residual-in_err-held.result _ c.from_residual-in_err-held.ensures.1
+
+pub returns-clause-fault : goal.returns-clause-fault
+returns-clause-fault g c = tt
+
+pub returns-clause-nothing : goal.returns-clause-nothing
+returns-clause-nothing g c = tt
+
+pub returns-in-Err-clause-unit : goal.returns-in-Err-clause-unit
+returns-in-Err-clause-unit g c = tt
+
+pub returns-in-Err-clause-empty : goal.returns-in-Err-clause-empty
+returns-in-Err-clause-empty g c = tt

@@ -6,3 +6,18 @@ use Rattle.cms_disk.proofs.minidisk.Minidisk.place.Goals as goal
 pub returns-in-None-clause-absent : goal.returns-in-None-clause-absent
 returns-in-None-clause-absent c =
     none_found c.args.self.now c.args.name.now (sym (c.in-None.ensures.place ∙ ap (λ (d : Accessed). place_of c.args.name.now d.volume) c.self.view_is))
+
+pub returns-in-Some-clause-missing : goal.returns-in-Some-clause-missing
+returns-in-Some-clause-missing c = tt
+
+pub returns-in-Some-clause-absent : goal.returns-in-Some-clause-absent
+returns-in-Some-clause-absent c = tt
+
+pub returns-in-Some-clause-fault : goal.returns-in-Some-clause-fault
+returns-in-Some-clause-fault c = tt
+
+pub returns-in-None-clause-place : goal.returns-in-None-clause-place
+returns-in-None-clause-place c = tt
+
+pub returns-in-None-clause-within : goal.returns-in-None-clause-within
+returns-in-None-clause-within c = tt

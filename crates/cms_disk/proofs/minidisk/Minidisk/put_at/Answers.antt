@@ -57,9 +57,8 @@ pub put_records-requires-clause-ready : goal.put_records-requires-clause-ready
 put_records-requires-clause-ready g c = λ j told.
     can_write j.units c.args.self.now.volume c.in_ok-draft.draft c.in_ok-draft.ensures.some (c.requires.blocks j told) (c.requires.writable c.in_ok-draft.ensures.writable j told)
 
-pub returns-in_err-put_records-clause-alters : goal.returns-in_err-put_records-clause-alters
-returns-in_err-put_records-clause-alters g c = λ j m records told is stands.
-    let p = err_from_is_err_and c.from_residual-in_err-put_records.result c.from_residual-in_err-put_records.ensures.1 in
+pub returns-in-Err-clause-alters : goal.returns-in-Err-clause-alters
+returns-in-Err-clause-alters g c = λ j m records told is stands.
     let old = g.W.World.told c.args.world.now in
     let new = g.W.World.told c.put_records.new.world in
     let d = c.args.self.now in
@@ -74,10 +73,10 @@ returns-in_err-put_records-clause-alters g c = λ j m records told is stands.
     let have = subst (λ (s : DraftShape). HaveShape s records) (sym eq) (has_shape c.args.file.now records stands) in
     let goes = subst (λ (t : Told). GoesOn t t e m draft change stamp [] records) (sym told)
     (made.begins j m records is (c.requires.blocks j told) have (long_so c.args.file.now shape records eq stands)) in
-    let g' = c.in_err-put_records.ensures.puts old e m change stamp [] records stands goes in
+    let g' = c.in-Err.ensures.puts old e m change stamp [] records stands goes in
     let counts = subst (λ (s : DraftShape). HaveCounts s records) (sym eq) (has_counts c.args.file.now records stands) in
-    subst (λ (s : DraftShape). Alters old new d e m (Put (file_with name s records)) stamp c.from_residual-in_err-put_records.result) eq
-    (subst (Alters old new d e m (Put (file_with name shape records)) stamp) (sym (p.1 ∙ ap Err (p.2 ∙ c.in_err-put_records.ensures.fault)))
+    subst (λ (s : DraftShape). Alters old new d e m (Put (file_with name s records)) stamp (Err c.in-Err.fault)) eq
+    (subst (Alters old new d e m (Put (file_with name shape records)) stamp) (sym (ap Err c.in-Err.ensures.fault))
     (given_up old new e e m change stamp _ g' (made.answers j m records is (c.requires.blocks j told) counts) (file_none (file_with name shape records)) (refl, refl) refl))
 
 pub commit-requires-clause-blocks : goal.commit-requires-clause-blocks
@@ -85,16 +84,16 @@ commit-requires-clause-blocks g c = λ k told.
     let volume = ap (λ (a : Accessed). a.volume) c.in_ok-draft.ensures.kept in
     subst (λ (v : HeldVolume). HasBlocks k.units v.unit v.disk.count v.disk.bsize) (sym volume)
     (units_kept (λ (units : List Attached). HasBlocks units c.args.self.now.volume.unit c.args.self.now.volume.disk.count c.args.self.now.volume.disk.bsize) _ _
-    c.in_ok-put_records.ensures.changes.grown c.requires.blocks k told)
+    c.in-Ok.ensures.changes.grown c.requires.blocks k told)
 
 pub commit-requires-clause-writable : goal.commit-requires-clause-writable
 commit-requires-clause-writable g c = λ k told.
     let volume = ap (λ (a : Accessed). a.volume) c.in_ok-draft.ensures.kept in
     subst (λ (v : HeldVolume). IsWritable k.units v.unit) (sym volume)
-    (units_kept (λ (units : List Attached). IsWritable units c.args.self.now.volume.unit) _ _ c.in_ok-put_records.ensures.changes.grown (c.requires.writable c.in_ok-draft.ensures.writable) k told)
+    (units_kept (λ (units : List Attached). IsWritable units c.args.self.now.volume.unit) _ _ c.in-Ok.ensures.changes.grown (c.requires.writable c.in_ok-draft.ensures.writable) k told)
 
-pub returns-clause-alters : goal.returns-clause-alters
-returns-clause-alters g c = λ j m records told is stands.
+pub returns-in-Ok-clause-alters : goal.returns-in-Ok-clause-alters
+returns-in-Ok-clause-alters g c = λ j m records told is stands.
     let old = g.W.World.told c.args.world.now in
     let new = g.W.World.told c.commit.new.world in
     let d = c.args.self.now in
@@ -104,7 +103,7 @@ returns-clause-alters g c = λ j m records told is stands.
     let stamp = c.args.stamp.now in
     let draft = c.in_ok-draft.draft in
     let made = c.in_ok-draft.ensures in
-    let put = c.in_ok-put_records.ensures in
+    let put = c.in-Ok.ensures in
     let eq = c.shape_of-shape.ensures.shape in
     let volume = ap (λ (a : Accessed). a.volume) made.kept in
     let writable = ap (λ (a : Accessed). a.writable) made.kept in
@@ -117,14 +116,14 @@ returns-clause-alters g c = λ j m records told is stands.
     (alters_same old new d e c.commit.new.self m (Put (file_with name shape records)) stamp c.commit.result volume writable
     (c.commit.ensures.alters old m change stamp records goes))
 
-pub returns-in_err-put_records-clause-limited : goal.returns-in_err-put_records-clause-limited
-returns-in_err-put_records-clause-limited g c = λ writable which limit.
+pub returns-in-Err-clause-limited : goal.returns-in-Err-clause-limited
+returns-in-Err-clause-limited g c = λ writable which limit.
     let shape = c.shape_of-shape.ensures.shape in
     absurd (not_made c.in_ok-draft.draft (Limit which) (c.in_ok-draft.ensures.limited writable which
     (subst (λ (s : DraftShape). limit_put (count_put c.args.self.now.volume c.args.name.now) s.count s.bytes ≡ Some which) (sym shape) limit)))
 
-pub returns-clause-limited : goal.returns-clause-limited
-returns-clause-limited g c = λ writable which limit.
+pub returns-in-Ok-clause-limited : goal.returns-in-Ok-clause-limited
+returns-in-Ok-clause-limited g c = λ writable which limit.
     let shape = c.shape_of-shape.ensures.shape in
     absurd (not_made c.in_ok-draft.draft (Limit which) (c.in_ok-draft.ensures.limited writable which
     (subst (λ (s : DraftShape). limit_put (count_put c.args.self.now.volume c.args.name.now) s.count s.bytes ≡ Some which) (sym shape) limit)))
@@ -133,29 +132,29 @@ pub commit-requires-clause-planned : goal.commit-requires-clause-planned
 commit-requires-clause-planned g c =
     let volume = ap (λ (a : Accessed). a.volume) c.in_ok-draft.ensures.kept in
     subst (λ (v : HeldVolume). IsSomeDraft v c.put_records.new.draft) (sym volume)
-    (same_some c.args.self.now.volume c.in_ok-draft.draft c.put_records.new.draft c.in_ok-put_records.ensures.same c.in_ok-draft.ensures.some)
+    (same_some c.args.self.now.volume c.in_ok-draft.draft c.put_records.new.draft c.in-Ok.ensures.same c.in_ok-draft.ensures.some)
 
-pub returns-clause-fault : goal.returns-clause-fault
-returns-clause-fault g c =
+pub returns-in-Ok-clause-fault : goal.returns-in-Ok-clause-fault
+returns-in-Ok-clause-fault g c =
     let shape = shape_of c.args.file.now in
     if_err c.commit.result IsDevices (IsPutFault c.args.self.now c.args.name.now shape) (device_is_fault c.args.self.now c.args.name.now shape) c.commit.ensures.fault
 
-pub returns-clause-read_only : goal.returns-clause-read_only
-returns-clause-read_only g c =
+pub returns-in-Ok-clause-read_only : goal.returns-in-Ok-clause-read_only
+returns-in-Ok-clause-read_only g c =
     if_err c.commit.result IsDevices (λ (e : DiskFault). e ≡ ReadOnly → c.args.self.now.writable ≡ false) (λ e device same. absurd (not_read_only e device same)) c.commit.ensures.fault
 
-pub returns-clause-changes : goal.returns-clause-changes
-returns-clause-changes g c =
-    let put = c.in_ok-put_records.ensures.changes in
+pub returns-in-Ok-clause-changes : goal.returns-in-Ok-clause-changes
+returns-in-Ok-clause-changes g c =
+    let put = c.in-Ok.ensures.changes in
     changed_behind (seen g.W.World c.args.world.now) (seen g.W.World c.put_records.new.world) (seen g.W.World c.commit.new.world) c.args.self.now c.draft_at.new.self c.commit.new.self c.commit.result
     put.grown put.faults put.edges c.in_ok-draft.ensures.kept c.commit.ensures.changes
 
-pub returns-clause-holds : goal.returns-clause-holds
-returns-clause-holds g c =
+pub returns-in-Ok-clause-holds : goal.returns-in-Ok-clause-holds
+returns-in-Ok-clause-holds g c =
     let d = c.args.self.now in
     let name = c.args.name.now in
     let volume = ap (λ (a : Accessed). a.volume) c.in_ok-draft.ensures.kept in
-    let planned = same_draft d.volume name c.shape_of-shape.result c.args.stamp.now c.in_ok-draft.draft c.put_records.new.draft c.in_ok-put_records.ensures.same c.in_ok-draft.ensures.planned in
+    let planned = same_draft d.volume name c.shape_of-shape.result c.args.stamp.now c.in_ok-draft.draft c.put_records.new.draft c.in-Ok.ensures.same c.in_ok-draft.ensures.planned in
     on_ok c.commit.result
     (λ leads. subst (λ (s : DraftShape). IsPutIn d.volume name s c.commit.new.self.volume) c.shape_of-shape.ensures.shape
     (put_in d.volume c.commit.new.self.volume name c.shape_of-shape.result c.args.stamp.now c.put_records.new.draft planned
@@ -165,5 +164,5 @@ returns-clause-holds g c =
 pub returns-in_err-draft-clause-holds : goal.returns-in_err-draft-clause-holds
 returns-in_err-draft-clause-holds g c = ok_at_err _ c.from_residual.result _ c.from_residual.ensures.1
 
-pub returns-in_err-put_records-clause-holds : goal.returns-in_err-put_records-clause-holds
-returns-in_err-put_records-clause-holds g c = ok_at_err _ c.from_residual-in_err-put_records.result _ c.from_residual-in_err-put_records.ensures.1
+pub returns-in-Err-clause-holds : goal.returns-in-Err-clause-holds
+returns-in-Err-clause-holds g c = tt

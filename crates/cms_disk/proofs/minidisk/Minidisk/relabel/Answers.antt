@@ -36,3 +36,6 @@ returns-then-not-is_writable-clause-locked g c = λ no. refl
 
 pub returns-then-not-is_writable-clause-fault : goal.returns-then-not-is_writable-clause-fault
 returns-then-not-is_writable-clause-fault g c = inl refl
+
+pub returns-then-not-is_writable-clause-holds : goal.returns-then-not-is_writable-clause-holds
+returns-then-not-is_writable-clause-holds g c = tt

@@ -92,3 +92,12 @@ returns-then-has-clause-taken g c = λ others. inr refl
 
 pub returns-then-has-clause-fault : goal.returns-then-has-clause-fault
 returns-then-has-clause-fault g c = inr (inl refl)
+
+pub returns-then-not-has-clause-holds : goal.returns-then-not-has-clause-holds
+returns-then-not-has-clause-holds g c = tt
+
+pub returns-then-has-clause-holds : goal.returns-then-has-clause-holds
+returns-then-has-clause-holds g c = tt
+
+pub returns-then-not-is_writable-clause-holds : goal.returns-then-not-is_writable-clause-holds
+returns-then-not-is_writable-clause-holds g c = tt

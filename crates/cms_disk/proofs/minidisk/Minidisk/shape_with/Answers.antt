@@ -15,3 +15,15 @@ returns-clause-can c = λ info bytes at here.
     let sized = subst (λ (o : Option FileInfo). IfSome o (λ i. IsSized i.format i.length i.count c.stored-stored.result)) c.info-info.ensures.info c.stored-stored.ensures.sized in
     rw (← is, ← stored)
     (can_extend own c.stored-stored.result c.args.more.now _ (search rules) c.info-info.ensures.sound sized c.requires.more (c.requires.fits own c.info-info.ensures.info))
+
+pub returns-in_default-clause-shape : goal.returns-in_default-clause-shape
+returns-in_default-clause-shape c = tt
+
+pub returns-in_default-clause-can : goal.returns-in_default-clause-can
+returns-in_default-clause-can c = tt
+
+pub returns-clause-fault : goal.returns-clause-fault
+returns-clause-fault c = tt
+
+pub returns-clause-many : goal.returns-clause-many
+returns-clause-many c = tt

@@ -30,3 +30,9 @@ pub returns-in-Err-clause-updates : goal.returns-in-Err-clause-updates
 returns-in-Err-clause-updates g c =
     subst (λ (h : Held). UpdatesSystems (g.W.World.told c.args.world.now) (g.W.World.told c.carry_out.new.world) h.volume.unit c.args.systems (Err c.in-Err.doubt)) c.self.view_is
     c.in-Err.ensures.updates
+
+pub returns-in-Ok-clause-kept : goal.returns-in-Ok-clause-kept
+returns-in-Ok-clause-kept g c = tt
+
+pub returns-in-Err-clause-volume : goal.returns-in-Err-clause-volume
+returns-in-Err-clause-volume g c = tt
