@@ -14,7 +14,7 @@ use cms_world::World;
 use std::alloc::Global;
 
 /// A command on cards.
-#[derive(Clone, Copy, Debug)]
+#[derive(Clone, Copy)]
 pub enum CardCommand {
     /// the records of a file are punched
     Punch,

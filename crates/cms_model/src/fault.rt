@@ -4,7 +4,7 @@ use thiserror::Error;
 
 /// Why bytes hold no records with lengths of their own. The place is that of a record's two-byte length, or of what is
 /// left behind the last record, counted in bytes from 0.
-#[derive(Clone, Copy, Debug, PartialEq, Eq)]
+#[derive(Clone, Copy, Debug)]
 pub enum VarFault {
     /// the length is 0
     Zero(u32),

@@ -13,7 +13,7 @@ use std::marker::Model;
 const HEAD: usize = 2;
 
 /// What a piece gave.
-#[derive(Clone, Copy, Debug, PartialEq, Eq)]
+#[derive(Clone, Copy, Debug)]
 pub struct Fed {
     /// the place in the piece behind the bytes that were taken
     pub next: usize,

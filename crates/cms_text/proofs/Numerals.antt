@@ -4,9 +4,11 @@ use Rattle.std.specs.Prelude.{Option, Some, None, ◌&&◌, ◌==◌, nat_le, �
 use Rattle.std.specs.Int.{w64}
 use Rattle.std.specs.List.{list_all, filter_map}
 use Rattle.std.proofs.lemmas.Bool.Decides.{nat_tests}
-use Rattle.std.proofs.lemmas.List.Folds.{list_all_at}
+use Rattle.std.proofs.lemmas.List.Folds.{list_all_at, list_all_more}
+use Rattle.std.proofs.lemmas.List.Sums.{fold_more}
 use Rattle.std.proofs.lemmas.List.{take_all}
 use Rattle.std.proofs.Math.Nat.{pow-le-pow_right}
+use Rattle.std.proofs.lemmas.Nat.{pow-add}
 use Rattle.std.proofs.lemmas.Fmt.{length_signed_le}
 use Rattle.std.specs.Fmt.{signed_decimal}
 use Rattle.std.specs.List.{cons_option}
@@ -42,6 +44,19 @@ digit_fits value i digit small few low =
     let few' : i ≤ 18 = omega arith in
     let bound : 10 ^ i ≤ 10 ^ 18 = pow-le-pow_right ten few' in
     omega (arith, bound)
+
+-- a digit more
+both_true : (a b : Bool) → a ≡ true → b ≡ true → (a && b) ≡ true
+both_true a b is is' = rw (is, is') refl
+
+pub digits_more : (digits : Text) (i : ℕ) → i < length digits → is_digit (get_or digits i 0) ≡ true → list_all is_digit (take i digits) ≡ true → list_all is_digit (take (i + 1) digits) ≡ true
+digits_more digits i here digit each = list_all_more is_digit digits i 0 here ∙ both_true (list_all is_digit (take i digits)) (is_digit (get_or digits i 0)) each digit
+
+pub value_more : (digits : Text) (i value digit : ℕ) → i < length digits → digit ≡ get_or digits i 0 - 0xF0 → value ≡ value_of (take i digits) → value * 10 + digit ≡ value_of (take (i + 1) digits)
+value_more digits i value digit here is so = rw (is, so) (sym (fold_more (λ n byte. n * 10 + (byte - 0xF0)) 0 digits i 0 here))
+
+pub small_more : (i value digit : ℕ) → value < 10 ^ i → digit ≤ 9 → value * 10 + digit < 10 ^ (i + 1)
+small_more i value digit small low = let power = pow-add 10 i 1 in omega (arith, small, low, power)
 
 -- so many digits write a number below that power of ten
 pub few_small : (most i value : ℕ) → value < 10 ^ i → i ≤ most → value < 10 ^ most

@@ -1,5 +1,5 @@
 use Rattle.std.proofs.Common.{rules, ◌≡◌, ◌⊎◌, inl, inr, ◌<◌, ◌≤◌, ◌+◌, ◌++◌, ℕ, List, true, false, length, Err, refl, sym, ◌∙◌, ap, subst, arith}
-use Rattle.std.proofs.lemmas.Result.{err_from_is_err_and}
+use Rattle.std.proofs.lemmas.Result.{err_from_is_err_and, IfOk-from_err}
 use Rattle.cms_records.specs.Scans.{VarScan, Holds, EndWithin, Passes, IsCut, sizes_in}
 use Rattle.cms_records.proofs.Scans.{holds_more, waits_past}
 use Rattle.cms_records.proofs.scan.VarScan.feed.Goals.{else-loop-done-test, then-loop-done-test+in_ok-pass+then-not-branch}
@@ -90,3 +90,54 @@ returns-clause-fed c = λ count bytes fed.
           subst (Ready count bytes piece) (sym w.self-is) (stays.0, inr (stays.1, stays.2))
     ] in
     c.keep.ensures.kept count bytes long both.0 both.1
+
+pub invariant_of-self : goal.invariant_of-self
+invariant_of-self c =
+    let i = c.self.invariant in
+    let few = c.requires in
+    let place = i.0 in
+    let fed : c.self.inside.fed ≡ c.args.self.now.fed = ap (λ (s : VarScan). s.fed) c.self.view_is in
+    (omega (arith, place), omega (arith, few, fed), i.2, i.3)
+
+pub pass-requires-clause-some : goal.pass-requires-clause-some
+pass-requires-clause-some c =
+    let held = c.loop-done.invariant.left in
+    let less = c.loop-done-test.true in
+    let left : c.self.inside.left ≡ c.args.self.now.left = ap (λ (s : VarScan). s.left) c.self.view_is in
+    omega (arith, held, less, left)
+
+pub pass-requires-clause-fed : goal.pass-requires-clause-fed
+pass-requires-clause-fed c = sym c.loop-done.invariant.fed
+
+pub returns-in_err-pass-clause-fed : goal.returns-in_err-pass-clause-fed
+returns-in_err-pass-clause-fed c = IfOk-from_err c.from_residual.result _ c.from_residual.ensures.0
+
+pub returns-in_err-pass-clause-bsize : goal.returns-in_err-pass-clause-bsize
+returns-in_err-pass-clause-bsize c = c.in_err-pass.ensures.bsize ∙ c.loop-done.invariant.bsize
+
+pub returns-in_err-pass-clause-count : goal.returns-in_err-pass-clause-count
+returns-in_err-pass-clause-count c = c.in_err-pass.ensures.count ∙ (c.loop-done.invariant.fed ∙ ap (λ (s : VarScan). s.fed + length c.args.piece.now) c.self.view_is)
+
+pub keep-requires : goal.keep-requires
+keep-requires c =
+    let fed : c.loop-done-test.self.fed ≡ c.self.inside.fed + length c.args.piece.now = elim c.loop-done-test.branch [
+      | else-loop-done-test w ↦ ap (λ (s : VarScan). s.fed) w.self-is ∙ c.loop-done.invariant.fed
+      | then-loop-done-test+in_ok-pass+then-not-branch w ↦ ap (λ (s : VarScan). s.fed) w.self-is ∙ (w.in_ok-pass.ensures.count ∙ c.loop-done.invariant.fed)
+    ] in
+    record { fed = sym fed }
+
+pub returns-clause-bsize : goal.returns-clause-bsize
+returns-clause-bsize c =
+    let bsize : c.loop-done-test.self.bsize ≡ c.args.self.now.bsize = elim c.loop-done-test.branch [
+      | else-loop-done-test w ↦ ap (λ (s : VarScan). s.bsize) w.self-is ∙ c.loop-done.invariant.bsize
+      | then-loop-done-test+in_ok-pass+then-not-branch w ↦ ap (λ (s : VarScan). s.bsize) w.self-is ∙ (w.in_ok-pass.ensures.bsize ∙ c.loop-done.invariant.bsize)
+    ] in
+    c.keep.ensures.bsize ∙ bsize
+
+pub returns-clause-count : goal.returns-clause-count
+returns-clause-count c =
+    let fed : c.loop-done-test.self.fed ≡ c.self.inside.fed + length c.args.piece.now = elim c.loop-done-test.branch [
+      | else-loop-done-test w ↦ ap (λ (s : VarScan). s.fed) w.self-is ∙ c.loop-done.invariant.fed
+      | then-loop-done-test+in_ok-pass+then-not-branch w ↦ ap (λ (s : VarScan). s.fed) w.self-is ∙ (w.in_ok-pass.ensures.count ∙ c.loop-done.invariant.fed)
+    ] in
+    c.keep.ensures.count ∙ (fed ∙ ap (λ (s : VarScan). s.fed + length c.args.piece.now) c.self.view_is)

@@ -1,6 +1,6 @@
-use Rattle.std.proofs.Common.{rules, ◌≡◌, ◌<◌, ◌≤◌, ◌+◌, ◌-◌, ◌++◌, ℕ, None, Some, inl, sym, ◌∙◌, ap, subst, arith}
+use Rattle.std.proofs.Common.{rules, ◌≡◌, ◌<◌, ◌≤◌, ◌+◌, ◌-◌, ◌++◌, ℕ, None, Some, inl, sym, ◌∙◌, ap, subst, arith, Option, refl}
 use Rattle.std.specs.Prelude.{max}
-use Rattle.cms_records.specs.Scans.{VarScan, Holds}
+use Rattle.cms_records.specs.Scans.{VarScan, Holds, IsCut}
 use Rattle.cms_records.specs.Starts.{with_place}
 use Rattle.cms_records.proofs.Scans.{holds_zero, holds_size, holds_next, past_next}
 use Rattle.cms_records.proofs.scan.VarScan.pass.Goals as goal
@@ -47,3 +47,41 @@ returns-clause-passed c = λ more count bytes long holds past.
       inl
           (omega (arith, less, at)),
     )
+
+pub next_size-requires : goal.next_size-requires
+next_size-requires c = record { fed = c.requires.fed }
+
+pub returns-in_default-clause-stays : goal.returns-in_default-clause-stays
+returns-in_default-clause-stays c = λ no_more count bytes long holds past.
+    let none = c.in_default.ensures.none refl in
+    (holds, past, subst (λ (o : Option ℕ). IsCut c.args.self.now.fed c.args.self.now.place o) (sym none.0) none.1)
+
+pub invariant_of-self : goal.invariant_of-self
+invariant_of-self c = let i = c.self.invariant in (i.0, i.1, i.2, c.in-Some.ensures.small)
+
+pub returns-then-self-size-clause-bsize : goal.returns-then-self-size-clause-bsize
+returns-then-self-size-clause-bsize c = ap (λ (s : VarScan). s.bsize) c.self.view_is
+
+pub returns-then-self-size-clause-count : goal.returns-then-self-size-clause-count
+returns-then-self-size-clause-count c = ap (λ (s : VarScan). s.fed) c.self.view_is
+
+pub first_with-first-requires : goal.first_with-first-requires
+first_with-first-requires c = let least = c.bytes-bsize.ensures.least in omega (arith, least)
+
+pub invariant_of-self-2 : goal.invariant_of-self-2
+invariant_of-self-2 c =
+    let i = c.self.invariant in
+    let fits = c.if-self-size.false in
+    let longest = c.max-self-inside.ensures in
+    let small = c.in-Some.ensures.small in
+    let most = i.2 in
+    (omega (arith, fits), i.1, omega (arith, longest, small, most), tt)
+
+pub returns-clause-left : goal.returns-clause-left
+returns-clause-left c = λ more. let left = ap (λ (s : VarScan). s.left) c.self.view_is in let some = c.requires.some in omega (arith, left, some)
+
+pub returns-clause-bsize : goal.returns-clause-bsize
+returns-clause-bsize c = ap (λ (s : VarScan). s.bsize) c.self.view_is
+
+pub returns-clause-count : goal.returns-clause-count
+returns-clause-count c = ap (λ (s : VarScan). s.fed) c.self.view_is
