@@ -1,22 +1,33 @@
 // The command as clap reads it.
 ghost use Rattle.std.specs.Prelude.{◌≡◌, ◌⊎◌, IfOk, IfErr, map, true, false};
-ghost use Rattle.clap.specs.Words.{app_of, found_of, rows_of, kind_of};
-ghost use Rattle.cms_words.specs.Command.{cms, are_taken, rows_in};
+ghost use Rattle.clap.specs.Words.{app_of, found_of, rows_of, kind_of, with_rule};
+ghost use Rattle.cms_words.specs.Command.{cms, are_taken, option_rule, rows_in};
 
 use clap::error::ErrorKind;
 use clap::{Arg, ArgMatches, Command, Error};
 use std::alloc::{AllocError, Global};
 
+// Adds an option of a letter, with a value.
+fn with_option<'a>(
+    alloc: Global,
+    command: Command<'a>,
+    id: &'a str,
+    letter: char,
+) -> Result<Command<'a>, AllocError>
+    ensures { IfOk result (λ c. app_of c
+        ≡ with_rule (app_of command.entry) (option_rule id.entry.now letter)) }
+{
+    command.arg(Arg::new(alloc, id).short(letter))
+}
+
 // `cms [-t TURNS] [-z ZONE] [-g NUMBER] UNIT...`
 fn cms_command<'a>(alloc: Global) -> Result<Command<'a>, AllocError>
     ensures { IfOk result (λ c. app_of c ≡ cms) }
 {
-    let command = Command::new(alloc, "cms")
-        .arg(Arg::new(alloc, "turns").short('t'))?
-        .arg(Arg::new(alloc, "zone").short('z'))?
-        .arg(Arg::new(alloc, "seed").short('g'))?
-        .arg(Arg::new(alloc, "unit").required(true).num_args(1..))?;
-    Ok(command)
+    let turns = with_option(alloc, Command::new(alloc, "cms"), "turns", 't')?;
+    let zone = with_option(alloc, turns, "zone", 'z')?;
+    let seed = with_option(alloc, zone, "seed", 'g')?;
+    seed.arg(Arg::new(alloc, "unit").required(true).num_args(1..))
 }
 
 /// What clap finds in the words: it takes them, or its own definition doesn't take them, or there is no memory.

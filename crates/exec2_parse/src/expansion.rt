@@ -9,17 +9,15 @@ use crate::fold::{folded, is_folded};
 use crate::{Scope, Vars};
 use cms_text::{LONGEST_TEXT, Word};
 use std::alloc::{AllocError, Global};
-use thiserror::Error;
 
 const AMPERSAND: u8 = 0x50;
 
 /// Why a word wasn't expanded.
-#[derive(Clone, Copy, Debug, Error)]
+#[derive(Clone, Copy, Debug)]
 pub enum ExpandFault {
     /// A value, with what stands to its left in the word, has more than 255 bytes.
-    #[error("an expanded word is longer than 255 bytes")]
     TooLong,
-    #[error("no memory")]
+    /// There is no memory.
     Memory,
 }
 

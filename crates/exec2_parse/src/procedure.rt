@@ -17,7 +17,6 @@ use cms_text::{LONGEST_TEXT, Line, Word, first_word, is_keyword, without_trailin
 use std::alloc::{AllocError, Global};
 use std::marker::Model;
 use std::rc::Rc;
-use thiserror::Error;
 
 /// The most lines of a procedure.
 const MOST_LINES: u32 = 4096;
@@ -26,18 +25,15 @@ const MOST_LINES: u32 = 4096;
 const ASTERISK: u8 = 0x5C;
 
 /// Why a file is no procedure that can be run.
-#[derive(Clone, Copy, Debug, Error)]
+#[derive(Clone, Copy, Debug)]
 pub enum ProcFault {
     /// The first word of the first line that is neither blank nor a comment isn't &TRACE, or there is no such line.
-    #[error("the file is no EXEC 2 procedure")]
     NotExec2,
     /// The line of this number, counted from 1, is the first with more than 255 bytes without the blanks at its end.
-    #[error("line {0} is longer than 255 bytes")]
     LineTooLong(u32),
     /// There are more than 4,096 lines.
-    #[error("there are more than 4096 lines")]
     TooManyLines,
-    #[error("no memory")]
+    /// There is no memory.
     Memory,
 }
 

@@ -1,7 +1,7 @@
 -- What is answered where a part of a function failed.
 use Rattle.std.proofs.Common.{◌≡◌, ◌∙◌, ◌⊎◌, inl, inr, Result, Ok, Err, sym, ap}
 use Rattle.std.specs.Result.{IsErrAnd, MatchResult}
-use Rattle.exec2_run.specs.Faults.{Answers, Leads}
+use Rattle.exec2_run.specs.Faults.{Answers, Does, Leads}
 use Rattle.exec2_run.specs.declared.fault.Fault.{Fault}
 use Rattle.exec2_run.specs.declared.fault.Fault.TheVariants.{Memory}
 
@@ -26,6 +26,10 @@ part_fails defined (Err e) why P h (inr is) led = inr (led is ∙ ap Err (sym h)
 pub leads_no_memory : {S A : Type 0} (defined : Result S Fault) (old new : S) (r : Result A Fault) → new ≡ old → IsErrAnd r (λ e. e ≡ Memory) → Leads defined old new r
 leads_no_memory defined old new (Ok x) same h = absurd h
 leads_no_memory defined old new (Err e) same h = (same, inl h)
+
+pub does_no_memory : {S A : Type 0} (defined : Result (S × A) Fault) (old new : S) (r : Result A Fault) → new ≡ old → IsErrAnd r (λ e. e ≡ Memory) → Does defined old new r
+does_no_memory defined old new (Ok x) same h = absurd h
+does_no_memory defined old new (Err e) same h = (same, inl h)
 
 pub leads_part_fail : {S A : Type 0} (defined : Result S Fault) (old new : S) (r : Result A Fault) (why : Fault) (P : Type 0) → new ≡ old → IsErrAnd r (λ e. e ≡ why)
     → (why ≡ Memory) ⊎ P → (P → defined ≡ Err why) → Leads defined old new r

@@ -2,6 +2,7 @@
 use Rattle.std.proofs.Common.{◌≡◌, ◌∙◌, ◌∷◌, [], ◌-◌, ◌<◌, ◌≤◌, ℕ, suc, Bool, List, pos, length, take, drop, get_or, ok_or, refl, sym, ap, arith}
 use Rattle.std.specs.Prelude.{Ok, Err}
 use Rattle.std.proofs.lemmas.List.{take_all}
+use Rattle.cms_text.specs.Numbers.{number_of}
 use Rattle.cms_text.specs.Texts.{Text}
 use Rattle.exec2_parse.specs.Expansion.{Binding}
 use Rattle.exec2_run.specs.Comparisons.{comparison_of}
@@ -11,7 +12,7 @@ use Rattle.exec2_run.specs.State.{Exec}
 use Rattle.exec2_run.specs.Values.{ended, missing, operands, whole}
 use Rattle.exec2_run.specs.declared.comparison.Comparison.{Comparison}
 use Rattle.exec2_run.specs.declared.fault.Fault.{Fault}
-use Rattle.exec2_run.specs.declared.fault.Fault.TheVariants.{BadStatement}
+use Rattle.exec2_run.specs.declared.fault.Fault.TheVariants.{BadStatement, NotNumber}
 use Rattle.exec2_run.specs.declared.want.Want.TheVariants.{Next}
 use Rattle.exec2_run.proofs.FirstWord.{first_and_rest, none_left}
 
@@ -84,3 +85,12 @@ module _ (s : Exec) (words : List Text) (is_cut : Bool) (none : length words < 1
 
   pub skips_one : (u : Unit {0}) (place : ℕ) → Ok u ≡ whole is_cut → Ok place ≡ place_after s (pos 1) → skipped_by s words is_cut ≡ Ok (record s { next = place }, Next)
   skips_one u place all good = alone ∙ rw (sym all, sym good) refl
+
+-- ---- &SKIP with a number
+
+module _ (s : Exec) (words : List Text) (count text : Text) (is_cut : Bool) (some : 1 ≤ length words) (is : count ≡ get_or words 0 count) (same : text ≡ count) where
+  counted : skipped_by s words is_cut ≡ skipped_by s (count ∷ take (length words - 1) (drop 1 words)) is_cut
+  counted = ap (λ (ws : List Text). skipped_by s ws is_cut) (first_and_rest words count some is)
+
+  pub skips_no_number : (why : Fault) → Err why ≡ ok_or (number_of text) NotNumber → skipped_by s words is_cut ≡ Err why
+  skips_no_number why bad = let here = ap (λ (t : Text). ok_or (number_of t) NotNumber) (sym same) ∙ sym bad in counted ∙ rw here refl

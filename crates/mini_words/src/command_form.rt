@@ -117,7 +117,13 @@ fn with_command<'a>(
         → (form_for form.now).top.is_plain ≡ true
         → HasForm c (with_subcommand whole (form_for form.now).top)) }
 {
-    command.subcommand(command_of(alloc, form)?)
+    match command_of(alloc, form) {
+        Ok(below) => command.subcommand(below),
+        Err(error) => {
+            drop(command);
+            Err(error)
+        }
+    }
 }
 
 /// Adds subcommands, one after another.

@@ -3,7 +3,7 @@ use Rattle.mini_words.specs.Commands.{form_for}
 use Rattle.mini_words.proofs.Forms.{command_added}
 use Rattle.mini_words.proofs.command_form.with_command.Goals as goal
 
-pub returns : goal.returns
-returns c =
+pub returns-in-Ok : goal.returns-in-Ok
+returns-in-Ok c =
     IfOk-weaker c.subcommand.result _ _ (λ new adds whole has plain.
-    command_added c.args.command _ new whole (form_for c.args.form.now) adds has c.in_ok-command_of.ensures plain) c.subcommand.ensures
+    command_added c.args.command _ new whole (form_for c.args.form.now) adds has c.in-Ok.ensures plain) c.subcommand.ensures

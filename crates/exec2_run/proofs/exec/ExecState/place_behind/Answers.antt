@@ -1,6 +1,8 @@
+use Rattle.std.proofs.Common.{◌∙◌, ap, ok_or}
 use Rattle.exec2_run.specs.Jumps.{skipped_by}
+use Rattle.exec2_run.specs.declared.fault.Fault.TheVariants.{NotNumber}
 use Rattle.exec2_run.proofs.Passed.{match_fails_so}
-use Rattle.exec2_run.proofs.WordsTaken.{skips_cut, skips_not, skips_one}
+use Rattle.exec2_run.proofs.WordsTaken.{skips_cut, skips_no_number, skips_not, skips_one}
 use Rattle.exec2_run.proofs.exec.ExecState.place_behind.Goals as goal
 
 pub returns-in_err-whole : goal.returns-in_err-whole
@@ -20,3 +22,11 @@ returns-in_err-place c =
 pub returns-in_default : goal.returns-in_default
 returns-in_default c =
     skips_one c.args.self.now c.args.words.now c.args.is_cut c.in_default.len_below c.in_ok-whole.field-0 c.in_ok-place.place c.in_ok-whole.ensures c.in_ok-place.ensures
+
+pub returns-in_err-ok_or : goal.returns-in_err-ok_or
+returns-in_err-ok_or c =
+    let a = c.args in
+    let why = c.in_err-ok_or.field-0.0 in
+    match_fails_so (skipped_by a.self.now a.words.now a.is_cut) c.from_residual-in_err-ok_or.result _ why c.from_residual-in_err-ok_or.ensures.1
+    (skips_no_number a.self.now a.words.now c.count-item.result c.bytes.result.now a.is_cut c.in-len1-up.len_at_least c.count-item.is c.bytes.ensures.bytes why
+    (c.in_err-ok_or.ensures.value ∙ ap (λ o. ok_or o NotNumber) c.number.ensures))
