@@ -103,7 +103,9 @@ fn put_copied<W: World>(
         plan,
         buffer,
     );
-    end_written(alloc, world, state, file, vdev, input.vdev, written)
+    let input_vdev = input.vdev;
+    drop(input);
+    end_written(alloc, world, state, file, vdev, input_vdev, written)
 }
 
 // The copies of a file were measured, and are put as a file of their own.
@@ -329,6 +331,8 @@ pub(crate) fn copy_records<W: World>(
         &plan,
         &mut buffer,
     );
+    let vdev = input.vdev;
+    drop(input);
     match measured {
         Ok(measure) => put_measured(
             alloc,
@@ -340,6 +344,6 @@ pub(crate) fn copy_records<W: World>(
             &measure,
             &mut buffer,
         ),
-        Err(fault) => stop_unread(alloc, world, state, input.vdev, fault),
+        Err(fault) => stop_unread(alloc, world, state, vdev, fault),
     }
 }

@@ -249,7 +249,10 @@ fn read_span<W: World>(
     for nth in behind..end {
         match cursor.next(world) {
             Ok(_) => keep_nth(alloc, &mut lines, line, span.front, nth, cursor.text())?,
-            Err(fault) => return refuse_unread(alloc, world, vdev, fault),
+            Err(fault) => {
+                drop(cursor);
+                return refuse_unread(alloc, world, vdev, fault);
+            }
         }
     }
     let drops = span.last || line.style.forgets;
@@ -286,10 +289,10 @@ fn read_records<W: World>(
 {
     let span = Span::of(&state.places, line, &file);
     if span.taken == 0 {
+        let vdev = file.vdev;
+        drop(file);
         let none = Lines::new(alloc);
-        return stack_read(
-            alloc, world, state, letter, info, line, file.vdev, span, &none,
-        );
+        return stack_read(alloc, world, state, letter, info, line, vdev, span, &none);
     }
     read_span(alloc, world, state, letter, info, line, file, span)
 }

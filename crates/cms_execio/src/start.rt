@@ -50,10 +50,13 @@ pub fn start_at(kept: Option<Cursor>, opened: Cursor, format: Format, front: u32
         ≡ block_behind front opened.begun.longest opened.bsize (length opened.leaves) }
 {
     match kept {
-        Some(cursor) => Start {
-            cursor,
-            behind: front,
-        },
+        Some(cursor) => {
+            drop(opened);
+            Start {
+                cursor,
+                behind: front,
+            }
+        }
         None => {
             let mut cursor = opened;
             let behind = pass_front(&mut cursor, format, front);
@@ -78,6 +81,7 @@ pub fn keep_behind(
     ensures { table.new ≡ table_behind table.old letter name.now count drops cursor }
 {
     if drops {
+        drop(cursor);
         return;
     }
     let name = *name;

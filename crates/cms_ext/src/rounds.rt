@@ -84,14 +84,20 @@ pub fn run<W: World>(
 {
     let mut reply = reply;
     loop {
-        match round(alloc, world, state, list, place, &reply)? {
+        let met = round(alloc, world, state, list, place, &reply);
+        drop(reply);
+        match met? {
             Met::Told(next) => reply = next,
             Met::Over(code) => return Ok(Course::Went(code)),
             Met::NoTurns => return Ok(Course::OutOfTurns),
         }
         if state.left == 0 {
+            drop(reply);
             return Ok(Course::OutOfTurns);
         }
-        turn(world, state)?;
+        if let Err(end) = turn(world, state) {
+            drop(reply);
+            return Err(end);
+        }
     }
 }

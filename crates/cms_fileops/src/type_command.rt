@@ -234,9 +234,13 @@ fn type_records<W: World>(
     for nth in 0..last {
         match cursor.next(world) {
             Ok(_) => type_nth(alloc, world, line, nth + 1, cursor.text())?,
-            Err(fault) => return refuse_unread(alloc, world, vdev, fault),
+            Err(fault) => {
+                drop(cursor);
+                return refuse_unread(alloc, world, vdev, fault);
+            }
         }
     }
+    drop(cursor);
     if last < count {
         return Ok(Course::Went(0));
     }
@@ -267,6 +271,7 @@ fn type_on<W: World>(
     let info = info_found(&state.table, found).unwrap();
     let file = open_found(alloc, &state.table, found, &info)?;
     if file.count < line.range.first {
+        drop(file);
         return refuse_line(alloc, world, words.as_slice(), Refusal::BadOperand(4));
     }
     type_records(alloc, world, state, found.letter, &info, file, line)

@@ -199,6 +199,16 @@ has_disk : (IsSo : Seated → Accessed → Type 0) (t new : AccessTable) (n : �
     → IfSome (item_at t.seats n) (λ x. HasDisk t new n (IsSo x))
 has_disk IsSo t new n s disk at is does = rw at (record { disk = disk; table = is ∙ sym (with_disk_is t n s disk at); does = does })
 
+some_within : (xs : List (Option Seated)) (n : ℕ) → IsSome (item_at xs n) → n < length xs
+some_within [] n some = absurd (cc some)
+some_within (y ∷ ys) zero some = omega arith
+some_within (y ∷ ys) (suc n) some = let h = some_within ys n some in omega (arith, h)
+
+-- the list of a table's seats, which has this length, has the place of an accessed letter
+pub seat_within : (t shown : AccessTable) (n size : ℕ) → t ≡ shown → IsSome (item_at shown.seats n) → size ≡ length t.seats → n < size
+seat_within t shown n size view accessed is =
+    subst (λ (l : ℕ). n < l) (sym is) (some_within t.seats n (subst (λ (y : AccessTable). IsSome (item_at y.seats n)) (sym view) accessed))
+
 -- the place of letter n, which is accessed, has x; the table of these parts is the one shown
 module _ (t shown : AccessTable) (n : ℕ) (x : Option Seated) (view : t ≡ shown) (accessed : IsSome (item_at shown.seats n)) (value : x ≡ get_or t.seats n x) where
   some_there : IsSome (item_at t.seats n)

@@ -48,7 +48,7 @@ impl AccessTable {
     {
         match &mut self.seats[letter as usize] {
             Some(seat) => {
-                seat.reading = None;
+                drop(seat.reading.take());
                 seat.disk.draft_at(alloc, there, name, shape, stamp)
             }
             None => unreachable!(),
@@ -77,7 +77,7 @@ impl AccessTable {
     {
         match &mut self.seats[letter as usize] {
             Some(seat) => {
-                seat.reading = None;
+                drop(seat.reading.take());
                 seat.disk
                     .draft_more_at(alloc, world, place, name, shape, stamp)
             }
@@ -102,7 +102,7 @@ impl AccessTable {
     {
         match &mut self.seats[letter as usize] {
             Some(seat) => {
-                seat.reading = None;
+                drop(seat.reading.take());
                 commit_draft(world, &mut seat.disk, draft)
             }
             None => unreachable!(),

@@ -79,7 +79,7 @@ impl AccessTable {
     {
         match &mut self.seats[letter as usize] {
             Some(seat) => {
-                seat.reading = None;
+                drop(seat.reading.take());
                 update_minidisk(alloc, world, &mut seat.disk, name, update, stamp)
             }
             None => unreachable!(),

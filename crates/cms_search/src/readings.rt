@@ -34,11 +34,11 @@ fn standing(kept: Option<KeptReading>, name: &Name, count: u32) -> Option<Cursor
     ensures none { result ≡ None → IfSome kept (λ r. Stood name.now count r → ⊥) }
 {
     let reading = kept?;
-    if stands(&reading, name, count) {
-        Some(reading.cursor)
-    } else {
-        None
+    if !stands(&reading, name, count) {
+        drop(reading);
+        return None;
     }
+    Some(reading.cursor)
 }
 
 // The disk of a letter keeps no reading.
@@ -48,7 +48,7 @@ fn drop_reading(seats: &mut Vec<Option<Seated>>, letter: usize)
         (option_map unread_seat (item_at seats.old.items letter)) }
 {
     match &mut seats[letter] {
-        Some(seat) => seat.reading = None,
+        Some(seat) => drop(seat.reading.take()),
         None => {}
     }
 }
@@ -96,7 +96,7 @@ impl AccessTable {
         ensures { self.new ≡ with_reading letter (Some reading) self.old }
     {
         match &mut self.seats[letter as usize] {
-            Some(seat) => seat.reading = Some(reading),
+            Some(seat) => drop(seat.reading.replace(reading)),
             None => unreachable!(),
         }
     }

@@ -89,5 +89,5 @@ pub fn put_on(seats: &mut Vec<Option<Seated>>, letter: usize, seat: Seated)
     ensures { seats.new.items ≡ put_on (λ s. s.letter.unit) seat letter seats.old.items }
 {
     vacate(seats, seat.unit);
-    seats[letter] = Some(seat);
+    drop(seats[letter].replace(seat));
 }

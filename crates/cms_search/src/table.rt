@@ -424,7 +424,7 @@ impl AccessTable {
     {
         match &mut self.seats[letter as usize] {
             Some(seat) => {
-                seat.reading = None;
+                drop(seat.reading.take());
                 change_minidisk(alloc, world, &mut seat.disk, change, stamp)
             }
             None => unreachable!(),
@@ -453,7 +453,7 @@ impl AccessTable {
     {
         if let Some(seat) = self.seated(letter) {
             let unit = seat.unit;
-            self.seats[letter as usize] = None;
+            drop(self.seats[letter as usize].take());
             self.doubts[unit] = true;
         }
     }

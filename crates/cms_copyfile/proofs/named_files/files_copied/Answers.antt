@@ -1,5 +1,5 @@
 use Rattle.std.proofs.Common.{◌∙◌, Ok, Err, ⊎_elim, inl, inr, sym}
-use Rattle.std.proofs.lemmas.Result.{err_from_is_err_and}
+use Rattle.std.proofs.lemmas.Result.{IfOk-from_err, err_from_is_err_and}
 use Rattle.cms_copyfile.proofs.FilesFound.{AreParts, no_items, none_copied, not_searched, searched_shown, some_copied, some_items}
 use Rattle.cms_copyfile.proofs.named_files.files_copied.Goals as goal
 
@@ -36,3 +36,12 @@ returns-clause-found c = λ s shows.
     let are : AreParts line = record { file = c.pattern_for-file.ensures.part; kind = c.pattern_for-kind.ensures.part } in
     some_copied t s line c.in_ok-found.found c.in_ok-named.named.items c.in_ok-check_output.field-0 shows (searched_shown t line (Ok c.in_ok-found.found) are (rw (file, kind) at c.in_ok-found.ensures.found) s shows)
     (c.in_ok-check_output.ensures s shows) (rw whole at c.in_ok-named.ensures) (some_items c.in_ok-named.named.items c.in_ok-named.named.len c.in_ok-named.named.ok.0 (sym c.is_empty.ensures ∙ c.if-is_empty.false))
+
+pub returns-in_err-found-clause-found : goal.returns-in_err-found-clause-found
+returns-in_err-found-clause-found c = IfOk-from_err c.from_residual.result _ c.from_residual.ensures.0
+
+pub returns-in_err-check_output-clause-found : goal.returns-in_err-check_output-clause-found
+returns-in_err-check_output-clause-found c = IfOk-from_err c.from_residual-in_err-check_output.result _ c.from_residual-in_err-check_output.ensures.0
+
+pub returns-in_err-named-clause-found : goal.returns-in_err-named-clause-found
+returns-in_err-named-clause-found c = IfOk-from_err c.from_residual-in_err-named.result _ c.from_residual-in_err-named.ensures.0

@@ -1,4 +1,4 @@
-use Rattle.std.proofs.Common.{◌≡◌, ◌<◌, ◌≤◌, ◌∙◌, ℕ, List, [], true, false, Ok, Err, ⊎_elim, inl, inr, refl, sym, subst, arith}
+use Rattle.std.proofs.Common.{◌≡◌, ◌<◌, ◌≤◌, ◌∙◌, ℕ, List, [], true, false, Ok, Err, ⊎_elim, inl, inr, refl, sym, subst, le_trans, arith}
 use Rattle.std.proofs.lemmas.Result.{err_from_is_err_and}
 use Rattle.std.specs.Option.{ForSome}
 use Rattle.cms_journal.specs.declared.event.Attached.{Attached}
@@ -231,3 +231,64 @@ returns-clause-puts g c = λ start d m change stamp records from.
     let l = c.loop-place in
     let is : l.place ≡ c.args.plan.now.wanted = omega arith in
     copied_wanted start (g.W.World.told l.world) d m l.draft change stamp c.args.plan.now c.args.cursor.now l.cursor records l.place (l.invariant.to start d m change stamp records from) is
+
+pub returns-in_err-put_nth-in-Ok-true-clause-capacity : goal.returns-in_err-put_nth-in-Ok-true-clause-capacity
+returns-in_err-put_nth-in-Ok-true-clause-capacity g c = le_trans c.loop-place.invariant.capacity c.in_err-put_nth-in-Ok-true.ensures.capacity
+
+pub returns-in_err-put_nth-in-Ok-true-clause-still : goal.returns-in_err-put_nth-in-Ok-true-clause-still
+returns-in_err-put_nth-in-Ok-true-clause-still g c = c.in_err-put_nth-in-Ok-true.ensures.still
+
+pub returns-in-Ok-false-clause-capacity : goal.returns-in-Ok-false-clause-capacity
+returns-in-Ok-false-clause-capacity g c = c.loop-place.invariant.capacity
+
+pub returns-in-Ok-false-clause-same : goal.returns-in-Ok-false-clause-same
+returns-in-Ok-false-clause-same g c = c.loop-place.invariant.same
+
+pub returns-in-Ok-false-clause-still : goal.returns-in-Ok-false-clause-still
+returns-in-Ok-false-clause-still g c =
+    subst (λ (t : Told). ForSome t (λ j. CanWrite j.units c.loop-place.draft.writer.writer)) (sym c.in-Ok-false.ensures.reads.told) c.loop-place.invariant.ready
+
+pub returns-in-Altered-clause-capacity : goal.returns-in-Altered-clause-capacity
+returns-in-Altered-clause-capacity g c = c.loop-place.invariant.capacity
+
+pub returns-in-Altered-clause-same : goal.returns-in-Altered-clause-same
+returns-in-Altered-clause-same g c = c.loop-place.invariant.same
+
+pub returns-in-Altered-clause-still : goal.returns-in-Altered-clause-still
+returns-in-Altered-clause-still g c =
+    subst (λ (t : Told). ForSome t (λ j. CanWrite j.units c.loop-place.draft.writer.writer)) (sym c.in-Err.ensures.reads.told) c.loop-place.invariant.ready
+
+pub returns-in_default-clause-capacity : goal.returns-in_default-clause-capacity
+returns-in_default-clause-capacity g c = c.loop-place.invariant.capacity
+
+pub returns-in_default-clause-same : goal.returns-in_default-clause-same
+returns-in_default-clause-same g c = c.loop-place.invariant.same
+
+pub returns-in_default-clause-still : goal.returns-in_default-clause-still
+returns-in_default-clause-still g c =
+    subst (λ (t : Told). ForSome t (λ j. CanWrite j.units c.loop-place.draft.writer.writer)) (sym c.in-Err.ensures.reads.told) c.loop-place.invariant.ready
+
+pub returns-clause-capacity : goal.returns-clause-capacity
+returns-clause-capacity g c = c.loop-place.invariant.capacity
+
+pub returns-clause-same : goal.returns-clause-same
+returns-clause-same g c = c.loop-place.invariant.same
+
+pub returns-clause-still : goal.returns-clause-still
+returns-clause-still g c = c.loop-place.invariant.ready
+
+pub returns-clause-changes : goal.returns-clause-changes
+returns-clause-changes g c =
+    let inv = c.loop-place.invariant in
+    record { grown = inv.grown; faults = inv.faults; edges = inv.edges; cause = tt }
+
+pub returns-in-Ok-false-clause-changes : goal.returns-in-Ok-false-clause-changes
+returns-in-Ok-false-clause-changes g c =
+    let inv = c.loop-place.invariant in
+    let n = c.in-Ok-false.ensures in
+    record {
+      grown = subst (λ (t : Told). Grown (g.W.World.told c.args.world.now) t) (sym n.reads.told) inv.grown;
+      faults = le_trans inv.faults n.reads.faults;
+      edges = n.reads.edges ∙ inv.edges;
+      cause = tt;
+    }

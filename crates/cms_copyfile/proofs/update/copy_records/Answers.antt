@@ -1,4 +1,4 @@
-use Rattle.std.proofs.Common.{◌≡◌, ◌∙◌, ◌≤◌, ap, subst, arith}
+use Rattle.std.proofs.Common.{◌≡◌, ◌∙◌, ◌≤◌, ap, refl, subst, arith}
 use Rattle.std.proofs.lemmas.Result.{err_from_is_err_and}
 use Rattle.cms_fields.specs.Limits.{longest_record}
 use Rattle.cms_world.specs.Seen.{seen}
@@ -101,3 +101,45 @@ returns-clause-acts g c = λ words.
     let e = c.in-Err.ensures in
     read_unread (seen g.W.World c.args.world.now) mid words c.args.line.now c.args.file.now c.in_ok-input.input (only_read _ _ _ _ e.reads) c.requires.file c.in_ok-input.ensures.opened new
     c.in-Err.fault c.stop_unread.result e.fault e.reads.cause (λ altered. (let told = e.reads.told in rw told (e.never altered))) c.stop_unread.ensures
+
+pub short_form-form-requires-clause-style : goal.short_form-form-requires-clause-style
+short_form-form-requires-clause-style g c = c.requires.line.style
+
+pub short_form-form-requires-clause-sound : goal.short_form-form-requires-clause-sound
+short_form-form-requires-clause-sound g c = c.requires.file.sound
+
+pub measure_input-measured-requires-clause-short : goal.measure_input-measured-requires-clause-short
+measure_input-measured-requires-clause-short g c = c.in_ok-input.ensures.short
+
+pub measure_input-measured-requires-clause-sound : goal.measure_input-measured-requires-clause-sound
+measure_input-measured-requires-clause-sound g c = c.requires.file.sound
+
+pub measure_input-measured-requires-clause-told : goal.measure_input-measured-requires-clause-told
+measure_input-measured-requires-clause-told g c = c.requires.file.input
+
+pub put_measured-requires-clause-moment : goal.put_measured-requires-clause-moment
+put_measured-requires-clause-moment g c = c.requires.moment
+
+pub put_measured-requires-clause-writing : goal.put_measured-requires-clause-writing
+put_measured-requires-clause-writing g c = c.requires.writing
+
+pub put_measured-requires-clause-line : goal.put_measured-requires-clause-line
+put_measured-requires-clause-line g c = c.requires.line
+
+pub put_measured-requires-clause-file : goal.put_measured-requires-clause-file
+put_measured-requires-clause-file g c = c.requires.file
+
+pub put_measured-requires-clause-bytes : goal.put_measured-requires-clause-bytes
+put_measured-requires-clause-bytes g c = c.in-Ok.ensures.bytes
+
+pub returns-in_err-buffer-clause-kept : goal.returns-in_err-buffer-clause-kept
+returns-in_err-buffer-clause-kept g c = refl
+
+pub returns-in_err-input-clause-kept : goal.returns-in_err-input-clause-kept
+returns-in_err-input-clause-kept g c = refl
+
+pub returns-clause-kept : goal.returns-clause-kept
+returns-clause-kept g c = refl
+
+pub returns-in-Ok-clause-kept : goal.returns-in-Ok-clause-kept
+returns-in-Ok-clause-kept g c = c.put_measured.ensures.kept

@@ -6,7 +6,7 @@ use Rattle.cms_search.specs.Searches.{item_at}
 use Rattle.cms_search.specs.Tables.{AccessTable, Seated}
 use Rattle.cms_search.specs.contracts.seated.Seated as seats
 use Rattle.cms_search.specs.contracts.table.AccessTable.{the_view}
-use Rattle.cms_search.proofs.Seats.{seat_at, seat_changed, seat_lost, table_kept}
+use Rattle.cms_search.proofs.Seats.{seat_at, seat_changed, seat_lost, seat_within, table_kept}
 use Rattle.cms_search.proofs.table.AccessTable.commit.Goals as goal
 
 pub unreachable-requires : goal.unreachable-requires
@@ -15,16 +15,18 @@ unreachable-requires g c =
 
 pub invariant_of-self : goal.invariant_of-self
 invariant_of-self g c =
-    table_kept (the_view c.self.inside) _ c.args.letter _ c.self.view_is c.requires.accessed c.index_mut.ensures.value
-    (seats.the_view c.seat.inside) _ c.commit_draft.new.disk c.self.invariant c.in-Some.is c.seat.view_is
+    let none = c.take.ensures.after in
+    rw none (table_kept (the_view c.self.inside) _ c.args.letter _ c.self.view_is c.requires.accessed c.index_mut.ensures.value
+    (seats.the_view c.seat.inside) _ c.commit_draft.new.disk c.self.invariant c.in-Some.is c.seat.view_is)
 
 pub returns : goal.returns
 returns g c =
+    let none = c.take.ensures.after in
     let t = the_view c.self.inside in
-    seat_changed t _ c.args.letter _ c.self.view_is c.requires.accessed c.index_mut.ensures.value
+    rw none (seat_changed t _ c.args.letter _ c.self.view_is c.requires.accessed c.index_mut.ensures.value
     (λ (s : Seated) (e : Accessed). CommitsTo (seen g.W.World c.args.world.now) (seen g.W.World c.commit_draft.new.world) s.disk e c.args.draft c.commit_draft.result)
     _ (seats.the_view c.seat.inside) _ c.commit_draft.new.disk c.in-Some.is c.seat.view_is refl
-    c.commit_draft.ensures
+    c.commit_draft.ensures)
 
 pub commit_draft-requires-clause-may : goal.commit_draft-requires-clause-may
 commit_draft-requires-clause-may g c =
@@ -32,3 +34,6 @@ commit_draft-requires-clause-may g c =
     let s = seats.the_view c.seat.inside in
     let at = seat_at t _ c.args.letter _ c.self.view_is c.requires.accessed c.index_mut.ensures.value s _ c.in-Some.is c.seat.view_is in
     c.requires.may s (ap (λ (x : AccessTable). item_at x.seats c.args.letter) (sym c.self.view_is) ∙ at)
+
+pub index_mut-requires : goal.index_mut-requires
+index_mut-requires g c = seat_within (the_view c.self.inside) _ c.args.letter _ c.self.view_is c.requires.accessed c.self.inside.seats.ok.0

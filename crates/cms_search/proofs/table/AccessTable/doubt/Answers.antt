@@ -17,8 +17,9 @@ index_mut-requires-in-Some c =
 
 pub invariant_of-self : goal.invariant_of-self
 invariant_of-self c =
+    let none = c.take.ensures.after in
     let t : AccessTable = record { units = c.self.inside.units; doubts = c.self.inside.doubts.items; seats = c.self.inside.seats.items } in
     let at = subst (λ (x : AccessTable). item_at x.seats c.args.letter ≡ Some c.in-Some.seat.now) (sym c.self.view_is) (sym c.seated.ensures.seat ∙ ap option_copied c.in-Some.is) in
     let unit : c.seat.inside.unit ≡ c.in-Some.seat.now.letter.unit = ap (λ (s : Seated). s.letter.unit) c.seat.view_is in
-    subst (λ (u : ℕ). IsTable (released c.args.letter (marked u true t))) (sym unit)
-    (table_doubted t c.args.letter c.in-Some.seat.now c.self.invariant at)
+    rw none (subst (λ (u : ℕ). IsTable (released c.args.letter (marked u true t))) (sym unit)
+    (table_doubted t c.args.letter c.in-Some.seat.now c.self.invariant at))

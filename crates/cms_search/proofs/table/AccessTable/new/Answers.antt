@@ -1,5 +1,6 @@
 use Rattle.std.proofs.Common.{◌≡◌, ◌∙◌, ℕ, ap, arith, rules, false, replicate}
 use Rattle.std.specs.Prelude.{None}
+use Rattle.std.proofs.lemmas.Result.{IfOk-from_err}
 use Rattle.cms_search.proofs.Tables.{table_made}
 use Rattle.cms_search.proofs.table.AccessTable.new.Goals as goal
 
@@ -11,3 +12,18 @@ invariant_of-result c =
     table_made c.args.units c.in_ok-vec.field-0.items c.loop.seats.items c.requires
     (c.in_ok-vec.ensures.items_if_clones_equal (λ y e. search rules) ∙ ap (λ (n : ℕ). replicate n false) c.len.ensures)
     (c.loop.invariant ∙ ap (λ (n : ℕ). replicate n None) all)
+
+pub returns-in_err-push : goal.returns-in_err-push
+returns-in_err-push c = IfOk-from_err c.from_residual.result _ c.from_residual.ensures.0
+
+pub returns-in_err-vec : goal.returns-in_err-vec
+returns-in_err-vec c = IfOk-from_err c.from_residual-in_err-vec.result _ c.from_residual-in_err-vec.ensures.0
+
+pub returns : goal.returns
+returns c =
+    let last = c.loop-test.false in
+    let high = c.loop.auto.counter-end in
+    let all : c.loop.counter ≡ 26 = omega (arith, last, high) in
+    let doubts = c.in_ok-vec.ensures.items_if_clones_equal (λ y e. search rules) ∙ ap (λ (n : ℕ). replicate n false) c.len.ensures in
+    let seats = c.loop.invariant ∙ ap (λ (n : ℕ). replicate n None) all in
+    λ k. record { units = c.args.units; doubts = doubts k; seats = seats k }

@@ -7,7 +7,7 @@ use Rattle.cms_search.specs.Tables.{IsReadingOf, Stood, reading_on, with_reading
 use Rattle.cms_search.specs.contracts.seated.Seated as seats
 use Rattle.cms_search.specs.contracts.table.AccessTable.{the_view}
 use Rattle.cms_search.specs.declared.readings.KeptReading.{KeptReading}
-use Rattle.cms_search.proofs.Seats.{reading_own, reading_set, reading_was, seat_lost, some_maps, table_reads}
+use Rattle.cms_search.proofs.Seats.{reading_own, reading_set, reading_was, seat_lost, seat_within, some_maps, table_reads}
 use Rattle.cms_search.proofs.table.AccessTable.take_reading.Goals as goal
 
 pub unreachable-requires : goal.unreachable-requires
@@ -49,3 +49,6 @@ returns-clause-sound c =
     (λ x is. reading_own (the_view c.self.inside) _ c.args.letter _ c.self.view_is c.requires c.index_mut.ensures.value (seats.the_view c.seat.inside) _
     (record { name = c.args.name.now; count = c.args.count; cursor = x }) c.self.invariant c.in-Some.is c.seat.view_is (sym c.take.ensures.value ∙ is))
     c.standing.ensures.some
+
+pub index_mut-requires : goal.index_mut-requires
+index_mut-requires c = seat_within (the_view c.self.inside) _ c.args.letter _ c.self.view_is c.requires c.self.inside.seats.ok.0
