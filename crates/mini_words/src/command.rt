@@ -216,7 +216,7 @@ const DUMP: [Argument<'static>; 3] = [
     },
 ];
 
-const COMMANDS: [CommandForm<'static>; 9] = [
+static COMMANDS: [CommandForm<'static>; 9] = [
     CommandForm {
         name: "list",
         about: "List the files of an image",

@@ -1,6 +1,6 @@
 // Commands that are built from tables.
 ghost use Rattle.std.specs.Prelude.{◌≡◌, IfOk, map, false, true};
-ghost use Rattle.clap.specs.Words.{App, new_app, rule_of, with_rule, with_subcommand};
+ghost use Rattle.clap.specs.Words.{App, new_app, rule_of, with_subcommand};
 ghost use Rattle.mini_words.specs.Commands.{HasForm, are_plain, form_for, rule_for, with_forms, with_rules};
 
 use clap::{Arg, ArgAction, Command};
@@ -72,18 +72,6 @@ fn arg_of<'a>(alloc: Global, argument: &Argument<'a>) -> Arg<'a>
     }
 }
 
-// Adds an argument.
-fn with_argument<'a>(
-    alloc: Global,
-    command: Command<'a>,
-    argument: &Argument<'a>,
-) -> Result<Command<'a>, AllocError>
-    ensures { IfOk result (λ c. (form : App) → HasForm command.entry form
-        → HasForm c (with_rule form (rule_for argument.now))) }
-{
-    command.arg(arg_of(alloc, argument))
-}
-
 // Adds arguments, one after another.
 fn with_arguments<'a>(
     alloc: Global,
@@ -94,7 +82,7 @@ fn with_arguments<'a>(
         → HasForm c (with_rules form (map rule_for arguments.now))) }
 {
     for argument in arguments {
-        command = with_argument(alloc, command, argument)?;
+        command = command.arg(arg_of(alloc, argument))?;
     }
     Ok(command)
 }
