@@ -1,5 +1,6 @@
 // Trees that are written while their leaves are, beside those that `build` makes.
-ghost use Rattle.std.specs.Prelude.{◌≡◌, ◌⊎◌, ◌≤◌, length, IfOk};
+ghost use Rattle.std.specs.Prelude.{◌≡◌, ◌⊎◌, ◌/◌, ◌≤◌, length, vec_len, IfOk};
+ghost use Rattle.cms_model.specs.Sizes.{pointer_count};
 
 use crate::plain_world::{PlainWorld, blank, written_once};
 use cms_cases::{number, told, word};
@@ -9,9 +10,8 @@ use cms_world::World;
 use std::alloc::{AllocError, Global};
 
 /// `climb/LEAVES/SIZE`: whether a tree over so many leaves with pointers of this size is written, and as `build` makes it.
-/// `order`: whether one over the leaves 10 to 138 is written, how many blocks in all, and which are from the 127th on.
-/// `fails/COUNT`: the same where the write behind so many fails, of the first pointer block or of the root, which is the last: whether
-/// all were written, how many were, and how often a write failed.
+/// `blocks/COUNT`: whether one over the leaves 10 to 138 is written where the write behind so many fails, of the first pointer block or of
+/// the root, which is the last; how many blocks are written in all, which they are from the 127th on, and how often a write failed.
 pub const ROWS: &str = "\
 climb/1/4 => (true, true)
 climb/2/4 => (true, true)
@@ -22,22 +22,20 @@ climb/16385/4 => (true, true)
 climb/42/12 => (true, true)
 climb/43/12 => (true, true)
 climb/1765/12 => (true, true)
-order => (true, 132, Some([136, 137, 1000000, 138, 1000001, 1000002]))
-fails/128 => (false, 128, 1)
-fails/131 => (false, 131, 1)";
+blocks/all => (true, 132, Some([136, 137, 1000000, 138, 1000001, 1000002]), 0)
+blocks/128 => (false, 128, Some([136, 137]), 1)
+blocks/131 => (false, 131, Some([136, 137, 1000000, 138, 1000001]), 1)";
 
 /// The number of the first pointer block; the leaves are numbered from 10.
 pub const FIRST: u32 = 1_000_000;
 
 /// So many numbers, one after another.
 pub fn numbers(alloc: Global, first: u32, count: u32) -> Result<Vec<u32>, AllocError>
-    requires first { first ≤ 1000000 }
-    requires count { count ≤ 1000000 }
-    ensures { IfOk result (λ v. length v.items ≡ count) }
+    ensures { IfOk result (λ v. vec_len v ≡ count) }
 {
     let mut numbers = Vec::new(alloc);
     for place in 0..count {
-        numbers.push(first + place)?;
+        numbers.push(first.wrapping_add(place))?;
     }
     Ok(numbers)
 }
@@ -50,9 +48,9 @@ pub fn mark_of(place: u32) -> Mark {
     }
 }
 
-/// The marks of so many leaves.
-pub fn marks(alloc: Global, count: u32) -> Result<Vec<Mark>, AllocError>
-    ensures { IfOk result (λ v. length v.items ≡ count) }
+// The marks of so many leaves.
+fn marks(alloc: Global, count: u32) -> Result<Vec<Mark>, AllocError>
+    ensures { IfOk result (λ v. vec_len v ≡ count) }
 {
     let mut marks = Vec::new(alloc);
     for place in 0..count {
@@ -61,70 +59,100 @@ pub fn marks(alloc: Global, count: u32) -> Result<Vec<Mark>, AllocError>
     Ok(marks)
 }
 
-/// Writes leaves by the world, and with them the pointer blocks over them; whether all were written.
+/// Writes the leaves of a tree from one on by the world, and with them the pointer blocks over them; whether all were written.
+pub fn add_leaves(
+    climb: &mut Climb,
+    world: &mut PlainWorld<'_>,
+    first: u32,
+    leaves: u32,
+    fresh: &[u32],
+) -> bool
+    requires few { leaves ≤ 100000 }
+    requires added { climb.old.added ≡ first }
+    requires leaves { climb.old.count ≡ leaves }
+    requires bsize { climb.old.bsize ≡ 512 }
+    requires psize { (climb.old.psize ≡ 4) ⊎ (climb.old.psize ≡ 12) }
+    requires fresh { pointer_count (512 / climb.old.psize) leaves ≤ length fresh.now }
+{
+    for place in first..leaves {
+        let leaf = 10 + place;
+        if world.write_block(0, leaf, &[0; 512]).is_err()
+            || climb.add(world, 0, leaf, &mark_of(place), fresh).is_err()
+        {
+            return false;
+        }
+    }
+    true
+}
+
+/// Writes a tree of so many leaves; whether all were written.
 pub fn climbs(
     alloc: Global,
     world: &mut PlainWorld<'_>,
     leaves: u32,
     psize: u8,
+    fresh: &[u32],
 ) -> Result<bool, AllocError>
     requires some { 1 ≤ leaves }
     requires few { leaves ≤ 100000 }
     requires psize { (psize ≡ 4) ⊎ (psize ≡ 12) }
+    requires fresh { pointer_count (512 / psize) leaves ≤ length fresh.now }
 {
-    let pointers = shape(leaves, 512 / u32::from(psize)).pointers;
-    if pointers > 100_000 {
-        return Ok(false);
-    }
-    let fresh = numbers(alloc, FIRST, pointers)?;
     let mut climb = Climb::new(alloc, leaves, BlockSize::new(512), psize)?;
-    for place in 0..leaves {
-        if world.write_block(0, 10 + place, &[0; 512]).is_err() {
-            return Ok(false);
-        }
-        let mark = mark_of(place);
-        if climb.add(world, 0, 10 + place, &mark, &fresh).is_err() {
-            return Ok(false);
-        }
-    }
-    Ok(true)
+    Ok(add_leaves(&mut climb, world, 0, leaves, fresh))
 }
 
-// Whether the world holds, between the leaves, each pointer block once and as `build` makes it.
-fn holds_them(
+// How many pointer blocks have this number or a higher one, where the world holds each of them once and as `build` makes it.
+fn built(
+    world: &PlainWorld<'_>,
+    blocks: &[u32],
+    marks: &[Mark],
+    psize: u8,
+    fresh: &[u32],
+    new: u32,
+) -> Option<usize>
+    requires psize { (psize ≡ 4) ⊎ (psize ≡ 12) }
+    requires some { 1 ≤ length blocks.now }
+    requires few { length blocks.now ≤ 100000 }
+    requires marks { length marks.now ≡ length blocks.now }
+    requires fresh { pointer_count (512 / psize) (length blocks.now) ≤ length fresh.now }
+{
+    let mut count = 0usize;
+    for nth in 0..shape(blocks.len() as u32, 512 / u32::from(psize)).pointers {
+        let number = fresh[nth as usize];
+        if number >= new {
+            let mut block = [0; 512];
+            let bsize = BlockSize::new(512);
+            build(blocks, marks, fresh, bsize, psize, nth, &mut block);
+            if written_once(world, number) != Some(block.as_slice()) {
+                return None;
+            }
+            count = count.saturating_add(1);
+        }
+    }
+    Some(count)
+}
+
+/// Whether the world holds, behind so many blocks, each pointer block with this number or a higher one once and as `build` makes it, and
+/// no other.
+pub fn holds(
     alloc: Global,
     world: &PlainWorld<'_>,
     leaves: u32,
     psize: u8,
+    fresh: &[u32],
+    new: u32,
+    others: usize,
 ) -> Result<bool, AllocError>
     requires some { 1 ≤ leaves }
     requires few { leaves ≤ 100000 }
     requires psize { (psize ≡ 4) ⊎ (psize ≡ 12) }
+    requires fresh { pointer_count (512 / psize) leaves ≤ length fresh.now }
 {
-    let pointers = shape(leaves, 512 / u32::from(psize)).pointers;
-    if pointers > 100_000 {
-        return Ok(false);
-    }
-    let fresh = numbers(alloc, FIRST, pointers)?;
     let blocks = numbers(alloc, 10, leaves)?;
     let marks = marks(alloc, leaves)?;
-    for nth in 0..pointers {
-        let mut block = [0; 512];
-        build(
-            &blocks,
-            &marks,
-            &fresh,
-            BlockSize::new(512),
-            psize,
-            nth,
-            &mut block,
-        );
-        match written_once(world, FIRST.wrapping_add(nth)) {
-            Some(bytes) if bytes == block.as_slice() => {}
-            _ => return Ok(false),
-        }
-    }
-    Ok(world.blocks.len() == leaves as usize + pointers as usize)
+    let held = world.blocks.len().checked_sub(others);
+    Ok(built(world, &blocks, &marks, psize, fresh, new) == held)
 }
 
 // Whether a tree is written, and as it is built.
@@ -133,31 +161,44 @@ fn climb(alloc: Global, leaves: u32, is_wide: bool) -> Result<String, AllocError
     if leaves < 1 || leaves > 100_000 {
         return told(alloc, &"no tree");
     }
-    let mut world = blank(alloc, usize::MAX);
-    let climbs = climbs(alloc, &mut world, leaves, psize)?;
-    told(alloc, &(climbs, holds_them(alloc, &world, leaves, psize)?))
+    let fresh = numbers(alloc, FIRST, shape(leaves, 512 / u32::from(psize)).pointers)?;
+    climb_told(alloc, &mut blank(alloc, usize::MAX), leaves, psize, &fresh)
 }
 
-fn order(alloc: Global) -> Result<String, AllocError> {
-    let mut world = blank(alloc, usize::MAX);
-    let climbs = climbs(alloc, &mut world, 129, 4)?;
+fn climb_told(
+    alloc: Global,
+    world: &mut PlainWorld<'_>,
+    leaves: u32,
+    psize: u8,
+    fresh: &[u32],
+) -> Result<String, AllocError>
+    requires some { 1 ≤ leaves }
+    requires few { leaves ≤ 100000 }
+    requires psize { (psize ≡ 4) ⊎ (psize ≡ 12) }
+    requires fresh { pointer_count (512 / psize) leaves ≤ length fresh.now }
+{
+    let climbs = climbs(alloc, world, leaves, psize, fresh)?;
+    let others = leaves as usize;
+    let holds = holds(alloc, world, leaves, psize, fresh, FIRST, others)?;
+    told(alloc, &(climbs, holds))
+}
+
+// What is written of a tree over 129 leaves.
+fn blocks(alloc: Global, world: &mut PlainWorld<'_>) -> Result<String, AllocError> {
+    let fresh = numbers(alloc, FIRST, shape(129, 128).pointers)?;
+    let climbs = climbs(alloc, world, 129, 4, &fresh)?;
+    let count = world.blocks.len();
     told(
         alloc,
-        &(climbs, world.blocks.len(), world.blocks.get(126..)),
+        &(climbs, count, world.blocks.get(126..), world.failures),
     )
-}
-
-fn fails(alloc: Global, failing: u32) -> Result<String, AllocError> {
-    let mut world = blank(alloc, failing as usize);
-    let climbs = climbs(alloc, &mut world, 129, 4)?;
-    told(alloc, &(climbs, world.blocks.len(), world.failures))
 }
 
 /// What a case comes to.
 pub fn answer(alloc: Global, case: &str) -> Result<String, AllocError> {
+    let count = number(word(case, 1));
     match word(case, 0) {
-        "climb" => climb(alloc, number(word(case, 1)), word(case, 2) == "12"),
-        "order" => order(alloc),
-        _ => fails(alloc, number(word(case, 1))),
+        "climb" => climb(alloc, count, word(case, 2) == "12"),
+        _ => blocks(alloc, &mut blank(alloc, count as usize)),
     }
 }

@@ -136,7 +136,9 @@ fn text_of(alloc: Global, message: &Message) -> Result<String, AllocError> {
 // What is typed.
 fn typed(alloc: Global, words: &Tokens, why: Refusal) -> Result<String, AllocError> {
     let message = why.message(alloc, words.as_slice())?;
-    text_of(alloc, &message)
+    let text = text_of(alloc, &message);
+    drop(message);
+    text
 }
 
 // What is typed, and the code.
@@ -150,7 +152,11 @@ fn refused(alloc: Global, words: &Tokens, why: Refusal) -> Result<String, AllocE
 fn line(alloc: Global, text: &str) -> Result<String, AllocError> {
     let words = words_of(alloc, text)?;
     match read(alloc, &words) {
-        Ok(chosen) => told(alloc, &chosen.as_slice()),
+        Ok(chosen) => {
+            let told = told(alloc, &chosen.as_slice());
+            drop(chosen);
+            told
+        }
         Err(CommandFault::Refused(why)) => refused(alloc, &words, why),
         Err(CommandFault::Memory) => Err(AllocError),
     }

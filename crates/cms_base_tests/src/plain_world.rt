@@ -38,10 +38,9 @@ impl World for PlainWorld<'_> {
 
     fn read_block(&mut self, _unit: u8, block: u32, into: &mut [u8]) -> Result<(), Failed> {
         self.reads = self.reads.saturating_add(1);
-        if let Some(bytes) = written_once(self, block) {
-            for (to, from) in into.iter_mut().zip(bytes) {
-                *to = *from;
-            }
+        match written_once(self, block) {
+            Some(bytes) if bytes.len() == into.len() => into.copy_from_slice(bytes),
+            _ => {}
         }
         Ok(())
     }

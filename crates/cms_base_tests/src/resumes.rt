@@ -2,17 +2,16 @@
 ghost use Rattle.std.specs.Prelude.{◌≡◌, ◌⊎◌, ◌/◌, ◌<◌, ◌≤◌, length};
 ghost use Rattle.cms_model.specs.Sizes.{pointer_count};
 
-use crate::climbs::{FIRST, climbs, mark_of, marks, numbers};
-use crate::plain_world::{PlainWorld, blank, written_once};
+use crate::climbs::{FIRST, add_leaves, climbs, holds, mark_of, numbers};
+use crate::plain_world::{PlainWorld, blank};
 use cms_cases::{number, told, word};
 use cms_journal::BlockSize;
-use cms_tree::{Climb, build, shape};
-use cms_world::World;
+use cms_tree::{Climb, shape};
 use std::alloc::{AllocError, Global};
 
 /// `resume/BEFORE/KEPT/LEAVES/SIZE`: a tree over so many leaves that keeps some of those of a tree before, with pointers of this
 /// size: whether it was written, whether each new pointer block is as `build` makes it, where those that are kept have their old
-/// numbers, and how many blocks were read.
+/// numbers, and no other is written, and how many blocks were read.
 pub const ROWS: &str = "\
 resume/1/1/2/4 => (true, true, 0)
 resume/1/0/2/12 => (true, true, 0)
@@ -69,26 +68,23 @@ fn resume(
     alloc: Global,
     world: &mut PlainWorld<'_>,
     trees: &Resumed,
+    olds: &[u32],
     fresh: &[u32],
-) -> Result<bool, AllocError>
+) -> bool
     requires psize { (trees.now.psize ≡ 4) ⊎ (trees.now.psize ≡ 12) }
     requires some { 1 ≤ trees.now.before }
     requires few { (trees.now.before ≤ 100000) × (trees.now.leaves ≤ 100000) }
     requires kept { trees.now.kept ≤ trees.now.before }
     requires fewer { trees.now.kept < trees.now.leaves }
+    requires olds { length olds.now ≡ pointer_count (512 / trees.now.psize) trees.now.before }
     requires fresh { pointer_count (512 / trees.now.psize) trees.now.leaves ≤ length fresh.now }
 {
-    let pointers = shape(trees.before, 512 / u32::from(trees.psize)).pointers;
-    if pointers > 100_000 {
-        return Ok(false);
-    }
-    let olds = numbers(alloc, FIRST, pointers)?;
     let resumed = Climb::resume(
         alloc,
         world,
         0,
         trees.before,
-        &olds,
+        olds,
         9 + trees.before,
         &mark_of(trees.before - 1),
         trees.kept,
@@ -96,56 +92,34 @@ fn resume(
         BlockSize::new(512),
         trees.psize,
     );
-    let Ok(mut climb) = resumed else {
-        return Ok(false);
-    };
-    for place in trees.kept..trees.leaves {
-        let mark = mark_of(place);
-        if climb.add(world, 0, 10 + place, &mark, fresh).is_err() {
-            return Ok(false);
-        }
+    match resumed {
+        Ok(mut climb) => add_leaves(&mut climb, world, trees.kept, trees.leaves, fresh),
+        Err(_) => false,
     }
-    Ok(true)
 }
 
-// Whether the world holds each new pointer block once and as `build` makes it, and no other.
-fn holds_new(
+// What becomes of a tree: whether it is written, whether as it is built, and how many blocks are read.
+fn told_of(
     alloc: Global,
-    world: &PlainWorld<'_>,
+    world: &mut PlainWorld<'_>,
     trees: &Resumed,
+    olds: &[u32],
     fresh: &[u32],
-    written: usize,
-) -> Result<bool, AllocError>
+) -> Result<String, AllocError>
     requires psize { (trees.now.psize ≡ 4) ⊎ (trees.now.psize ≡ 12) }
-    requires some { 1 ≤ trees.now.leaves }
-    requires few { trees.now.leaves ≤ 100000 }
+    requires some { 1 ≤ trees.now.before }
+    requires few { (trees.now.before ≤ 100000) × (trees.now.leaves ≤ 100000) }
+    requires kept { trees.now.kept ≤ trees.now.before }
+    requires fewer { trees.now.kept < trees.now.leaves }
+    requires olds { length olds.now ≡ pointer_count (512 / trees.now.psize) trees.now.before }
     requires fresh { pointer_count (512 / trees.now.psize) trees.now.leaves ≤ length fresh.now }
 {
-    let blocks = numbers(alloc, 10, trees.leaves)?;
-    let marks = marks(alloc, trees.leaves)?;
-    let mut new = 0usize;
-    for nth in 0..shape(trees.leaves, 512 / u32::from(trees.psize)).pointers {
-        let number = fresh[nth as usize];
-        if number < NEW {
-            continue;
-        }
-        new = new.saturating_add(1);
-        let mut block = [0; 512];
-        build(
-            &blocks,
-            &marks,
-            fresh,
-            BlockSize::new(512),
-            trees.psize,
-            nth,
-            &mut block,
-        );
-        match written_once(world, number) {
-            Some(bytes) if bytes == block.as_slice() => {}
-            _ => return Ok(false),
-        }
-    }
-    Ok(world.blocks.len() == written.saturating_add(new))
+    climbs(alloc, world, trees.before, trees.psize, olds)?;
+    let leaves = (trees.leaves - trees.kept) as usize;
+    let others = world.blocks.len().saturating_add(leaves);
+    let resumes = resume(alloc, world, trees, olds, fresh);
+    let holds = holds(alloc, world, trees.leaves, trees.psize, fresh, NEW, others)?;
+    told(alloc, &(resumes, holds, world.reads))
 }
 
 /// What a case comes to.
@@ -162,15 +136,11 @@ pub fn answer(alloc: Global, case: &str) -> Result<String, AllocError> {
     if trees.kept > trees.before || trees.kept >= trees.leaves {
         return told(alloc, &"not kept");
     }
+    let fan = 512 / u32::from(trees.psize);
+    let olds = numbers(alloc, FIRST, shape(trees.before, fan).pointers)?;
     let fresh = numbers_after(alloc, &trees)?;
-    let count = shape(trees.leaves, 512 / u32::from(trees.psize)).pointers;
-    if fresh.len() < count as usize {
+    if fresh.len() < shape(trees.leaves, fan).pointers as usize {
         return told(alloc, &"no numbers");
     }
-    let mut world = blank(alloc, usize::MAX);
-    climbs(alloc, &mut world, trees.before, trees.psize)?;
-    let written = world.blocks.len();
-    let resumes = resume(alloc, &mut world, &trees, &fresh)?;
-    let holds = holds_new(alloc, &world, &trees, &fresh, written)?;
-    told(alloc, &(resumes, holds, world.reads))
+    told_of(alloc, &mut blank(alloc, usize::MAX), &trees, &olds, &fresh)
 }

@@ -1,8 +1,9 @@
 // Shapes, and trees that are built and read again.
-ghost use Rattle.std.specs.Prelude.{◌≡◌, ◌≤◌, vec_len, IfOk, IfSome};
+ghost use Rattle.std.specs.Prelude.{◌≡◌, ◌≤◌, IfSome};
 ghost use Rattle.cms_journal.specs.Journal.{HasBlocks};
 ghost use Rattle.cms_world.specs.Mem.{journal_of};
 
+use crate::climbs::numbers;
 use cms_cases::{number, told, word};
 use cms_journal::BlockSize;
 use cms_tree::{Mark, TreeAt, build, leaves, left_out, path, shape};
@@ -147,19 +148,17 @@ fn read(alloc: Global, world: &mut MemWorld, at: &TreeAt) -> Result<String, Allo
     )
 }
 
-// A world with the image, of whose calls one fails.
-fn world_with(alloc: Global, failing: u32) -> Result<MemWorld, AllocError> {
-    let image = tree_image(alloc)?;
-    let mut world = MemWorld::new(alloc, b"", 0)?;
-    world.add_image("T", &image)?;
-    world.fail_at(failing, false)?;
-    Ok(world)
+// Gives a world the image, and has one of its calls fail.
+fn fill(world: &mut MemWorld, alloc: Global, failing: u32) -> Result<(), AllocError> {
+    world.add_image("T", &tree_image(alloc)?)?;
+    world.fail_at(failing, false)
 }
 
-fn tree(alloc: Global, case: &str) -> Result<String, AllocError> {
-    let mut world = world_with(alloc, number(word(case, 4)))?;
+// How a tree is read in a world.
+fn tree(alloc: Global, world: &mut MemWorld, case: &str) -> Result<String, AllocError> {
+    fill(world, alloc, number(word(case, 4)))?;
     let count = number(word(case, 2));
-    match attach(&mut world) {
+    match attach(world) {
         Some(unit) if count >= 1 => {
             let at = TreeAt {
                 unit: unit.number,
@@ -171,21 +170,10 @@ fn tree(alloc: Global, case: &str) -> Result<String, AllocError> {
                 psize: 12,
                 first: word(case, 3).parse().ok(),
             };
-            read(alloc, &mut world, &at)
+            read(alloc, world, &at)
         }
         _ => told(alloc, &"no tree"),
     }
-}
-
-// So many numbers from one on.
-fn numbers_from(alloc: Global, first: u32, count: u32) -> Result<Vec<u32>, AllocError>
-    ensures { IfOk result (λ v. vec_len v ≡ count) }
-{
-    let mut numbers = Vec::with_capacity(alloc, count as usize)?;
-    for nth in 0..count {
-        numbers.push(first.wrapping_add(nth))?;
-    }
-    Ok(numbers)
 }
 
 fn path_told(
@@ -198,8 +186,8 @@ fn path_told(
     if before < 1 || count < 1 || fan < 2 {
         return told(alloc, &"no tree");
     }
-    let olds = numbers_from(alloc, 100, shape(before, fan).pointers)?;
-    let fresh = numbers_from(alloc, 1000, shape(count, fan).pointers)?;
+    let olds = numbers(alloc, 100, shape(before, fan).pointers)?;
+    let fresh = numbers(alloc, 1000, shape(count, fan).pointers)?;
     let mut blocks = Vec::with_capacity(alloc, fresh.len())?;
     let mut left = Vec::with_capacity(alloc, olds.len())?;
     path(before, &olds, count, fan, &[written], &fresh, &mut blocks);
@@ -219,6 +207,11 @@ pub fn answer(alloc: Global, case: &str) -> Result<String, AllocError> {
             number(word(case, 3)),
             number(word(case, 4)),
         ),
-        _ => tree(alloc, case),
+        _ => {
+            let mut world = MemWorld::new(alloc, b"", 0)?;
+            let answer = tree(alloc, &mut world, case);
+            drop(world);
+            answer
+        }
     }
 }

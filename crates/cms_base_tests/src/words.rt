@@ -156,12 +156,17 @@ cms/-g/x/-z/X/191,512,rw,x/191,512,rw,x => (4, Zone)
 cms/-g/x/191,512,rw,x/191,512,rw,x => (5, Twice(401))
 no words => (1, Syntax)";
 
+fn push_words(into: &mut Argv, case: &str) -> Result<(), AllocError> {
+    for word in case.split('/') {
+        into.push(word)?;
+    }
+    Ok(())
+}
+
 fn argv(alloc: Global, case: &str) -> Result<Argv, AllocError> {
     let mut words = Argv::new(alloc);
     if case != "no words" {
-        for word in case.split('/') {
-            words.push(word)?;
-        }
+        push_words(&mut words, case)?;
     }
     Ok(words)
 }
@@ -189,7 +194,11 @@ fn values(alloc: Global, words: &Words) -> Result<String, AllocError> {
 /// What a case comes to.
 pub fn answer(alloc: Global, case: &str) -> Result<String, AllocError> {
     match read_words(alloc, &argv(alloc, case)?) {
-        Ok(words) => values(alloc, &words),
+        Ok(words) => {
+            let values = values(alloc, &words);
+            drop(words);
+            values
+        }
         Err(fault) => told(alloc, &(fault.number(), fault)),
     }
 }

@@ -2,6 +2,7 @@
 use crate::disk::{access_of, info_of, letters, minidisk};
 use cms_cases::{number, told, word};
 use cms_disk::{DiskFault, Minidisk};
+use cms_fields::Stamp;
 use cms_images::{
     START, calls_of, file_named, image_left, image_named, put_texts, world_of, world_with,
 };
@@ -151,11 +152,17 @@ fn changed(alloc: Global, world: &mut MemWorld, access: Access, asked: &Asked) -
 
 // The files of what a crash leaves, or why there is no minidisk.
 fn left(alloc: Global, world: &MemWorld, at: usize, choice: u64) -> Result<String, AllocError> {
-    let image = image_left(alloc, world, at, choice)?;
-    match minidisk(alloc, &mut world_of(image), Access::ReadOnly) {
-        Ok(disk) => letters(alloc, &disk),
+    let mut after = world_of(image_left(alloc, world, at, choice)?);
+    let files = match minidisk(alloc, &mut after, Access::ReadOnly) {
+        Ok(disk) => {
+            let files = letters(alloc, &disk);
+            drop(disk);
+            files
+        }
         Err(fault) => told(alloc, &fault),
-    }
+    };
+    drop(after);
+    files
 }
 
 // The flags byte of the first file's entry, in the one block of the directory that the label names.
@@ -168,17 +175,43 @@ fn flags(image: &[u8]) -> Option<u8> {
     image.get(at).copied()
 }
 
+// The stamp of the first file of a minidisk.
+fn stamp_of(disk: &Minidisk) -> Option<Stamp> {
+    if disk.count() == 0 {
+        return None;
+    }
+    Some(disk.info(0).stamp)
+}
+
+// The stamp of the first file in an image; none where there is no minidisk or no file.
+fn stamp_in(alloc: Global, image: Vec<u8>) -> Option<Stamp> {
+    let mut world = world_of(image);
+    let stamp = match minidisk(alloc, &mut world, Access::ReadOnly) {
+        Ok(disk) => {
+            let stamp = stamp_of(&disk);
+            drop(disk);
+            stamp
+        }
+        Err(_) => None,
+    };
+    drop(world);
+    stamp
+}
+
 // The stamp of the first file of what is left, and the flags byte of its entry.
 fn dated(alloc: Global, world: &MemWorld) -> Result<String, AllocError> {
     let image = image_left(alloc, world, world.events(), u64::MAX)?;
     let flags = flags(&image).unwrap_or(0xFF);
-    match minidisk(alloc, &mut world_of(image), Access::ReadOnly) {
-        Ok(disk) if disk.count() > 0 => {
-            let stamp = disk.info(0).stamp;
-            format!(in alloc; "{}-{}-{} {flags}", stamp.year, stamp.month, stamp.day)
-        }
-        Ok(_) => String::from_str(alloc, "no file"),
-        Err(fault) => told(alloc, &fault),
+    match stamp_in(alloc, image) {
+        Some(
+            Stamp {
+                year,
+                month,
+                day,
+                ..
+            },
+        ) => { format!(in alloc; "{year}-{month}-{day} {flags}") }
+        None => String::from_str(alloc, "no file"),
     }
 }
 
@@ -235,8 +268,9 @@ fn with_answer(
 // The call that stands so many before the last one of an access and of what is asked then.
 fn call_back(alloc: Global, image: &[u8], asked: &Asked, back: u32) -> Result<u32, AllocError> {
     let mut world = world_with(alloc, image, 0, false)?;
-    let _answer = changed(alloc, &mut world, Access::ReadWrite, asked);
+    drop(changed(alloc, &mut world, Access::ReadWrite, asked));
     let calls = world.calls().len().min(1000) as u32;
+    drop(world);
     Ok(calls.saturating_sub(back))
 }
 
@@ -248,10 +282,16 @@ fn answer_on(alloc: Global, image: &[u8], case: &str, asked: &Asked) -> Result<S
     };
     let access = access_of(word(case, 0));
     let mut world = world_with(alloc, image, failing, word(case, 4) == "landed")?;
-    match changed(alloc, &mut world, access, asked) {
-        Some((answer, disk)) => with_answer(alloc, &world, case, &answer, &disk),
+    let told = match changed(alloc, &mut world, access, asked) {
+        Some((answer, disk)) => {
+            let told = with_answer(alloc, &world, case, &answer, &disk);
+            drop(disk);
+            told
+        }
         None => String::from_str(alloc, "no minidisk"),
-    }
+    };
+    drop(world);
+    told
 }
 
 /// What a case comes to.

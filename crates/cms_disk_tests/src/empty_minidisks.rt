@@ -47,7 +47,11 @@ fn push_counts(into: &mut String, disk: &Minidisk) -> Result<(), AllocError> {
 
 fn push_made(into: &mut String, alloc: Global, world: &mut MemWorld) -> Result<(), AllocError> {
     match make_on(alloc, world) {
-        Some(Ok(disk)) => push_counts(into, &disk),
+        Some(Ok(disk)) => {
+            let done = push_counts(into, &disk);
+            drop(disk);
+            done
+        }
         Some(Err(fault)) => write!(into, "{fault:?}"),
         None => into.push_str("no unit"),
     }
@@ -55,10 +59,17 @@ fn push_made(into: &mut String, alloc: Global, world: &mut MemWorld) -> Result<(
 
 // Adds what is accessed in an image.
 fn push_accessed(into: &mut String, alloc: Global, image: Vec<u8>) -> Result<(), AllocError> {
-    match minidisk(alloc, &mut world_of(image), Access::ReadOnly) {
-        Ok(disk) => push_counts(into, &disk),
+    let mut world = world_of(image);
+    let done = match minidisk(alloc, &mut world, Access::ReadOnly) {
+        Ok(disk) => {
+            let done = push_counts(into, &disk);
+            drop(disk);
+            done
+        }
         Err(fault) => write!(into, "{fault:?}"),
-    }
+    };
+    drop(world);
+    done
 }
 
 const SMALL: Made = Made {
@@ -84,6 +95,12 @@ fn push_left(into: &mut String, alloc: Global, world: &MemWorld) -> Result<(), A
     push_accessed(into, alloc, image)
 }
 
+// Adds what comes of a world.
+fn push_answer(into: &mut String, alloc: Global, world: &mut MemWorld) -> Result<(), AllocError> {
+    push_made(into, alloc, world)?;
+    push_left(into, alloc, world)
+}
+
 // The world of a case.
 fn world_of_case(alloc: Global, case: &str) -> Result<MemWorld, AllocError> {
     let image = image_named(alloc, word(case, 0))?;
@@ -95,7 +112,8 @@ fn world_of_case(alloc: Global, case: &str) -> Result<MemWorld, AllocError> {
 pub fn answer(alloc: Global, case: &str) -> Result<String, AllocError> {
     let mut world = world_of_case(alloc, case)?;
     let mut told = String::new(alloc);
-    push_made(&mut told, alloc, &mut world)?;
-    push_left(&mut told, alloc, &world)?;
+    let done = push_answer(&mut told, alloc, &mut world);
+    drop(world);
+    done?;
     Ok(told)
 }

@@ -201,7 +201,9 @@ fn keeps_order(
 // The same of a new minidisk with all of the files.
 fn is_as_list(alloc: Global, world: &mut QuietWorld, list: &mut Vec<Listed>) -> Option<bool> {
     let mut disk = filled(alloc, world)?;
-    keeps_order(alloc, world, &mut disk, list)
+    let kept = keeps_order(alloc, world, &mut disk, list);
+    drop(disk);
+    kept
 }
 
 #[test]
@@ -210,6 +212,9 @@ fn many_files_keep_the_order_of_a_plain_list(rt: HostRuntime) -> Result<(), Fail
     let mut world = QuietWorld::new(ImageList::new(alloc), Vec::new(alloc));
     let mut list = all(alloc)?;
     let kept = is_as_list(alloc, &mut world, &mut list);
-    assert_eq!(rt; (kept, list.len()), (Some(true), 1_334));
+    drop(world);
+    let count = list.len();
+    drop(list);
+    assert_eq!(rt; (kept, count), (Some(true), 1_334));
     Ok(())
 }

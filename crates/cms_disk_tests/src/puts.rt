@@ -39,17 +39,33 @@ const WRITTEN: Stamp = Stamp {
     second: 2,
 };
 
+// What is read of A FILE.
+fn file_a(alloc: Global, world: &mut Disk) -> Option<FileData>
+    ensures valid { IfSome result IsValid }
+{
+    let name = file_named("A")?;
+    let Ok(disk) = minidisk(alloc, world, Access::ReadOnly) else {
+        return None;
+    };
+    let file = disk.get(alloc, world, &name);
+    drop(disk);
+    match file {
+        Ok(file) => Some(file),
+        Err(_) => None,
+    }
+}
+
 // A FILE, one record HELLO.
 fn hello(alloc: Global) -> Option<FileData>
     ensures valid { IfSome result IsValid }
 {
-    let name = file_named("A")?;
-    let mut world = world_of(image_named(alloc, "one file").ok()?);
-    let disk = minidisk(alloc, &mut world, Access::ReadOnly).ok()?;
-    match disk.get(alloc, &mut world, &name) {
-        Ok(file) => Some(file),
-        Err(_) => None,
-    }
+    let Ok(image) = image_named(alloc, "one file") else {
+        return None;
+    };
+    let mut world = world_of(image);
+    let file = file_a(alloc, &mut world);
+    drop(world);
+    file
 }
 
 // One record of 2,048 blanks.
@@ -182,19 +198,14 @@ fn blocks_of(alloc: Global, world: &Disk) -> Result<String, AllocError> {
     Ok(text)
 }
 
-// What a case comes to in a world in which what is asked is kept.
-fn logged(alloc: Global, image: &[u8], case: &str) -> Result<String, AllocError> {
-    let mut world = Disk::logged(alloc, image)?;
-    let Some(file) = file_of(alloc, word(case, 3)) else {
-        return String::from_str(alloc, "no file");
-    };
-    match minidisk(alloc, &mut world, Access::ReadWrite) {
-        Ok(mut disk) => {
-            let answer = all_on(alloc, &mut world, &mut disk, case, &file);
-            format!(in alloc; "{answer:?}{}", blocks_of(alloc, &world)?)
-        }
-        Err(fault) => told(alloc, &fault),
-    }
+// What is told where what is asked of the world is kept: the answer, and the blocks.
+fn told_logged(
+    alloc: Global,
+    world: &Disk,
+    answer: Result<(), DiskFault>,
+) -> Result<String, AllocError> {
+    let blocks = blocks_of(alloc, world)?;
+    format!(in alloc; "{answer:?}{blocks}")
 }
 
 // What is done with a minidisk and a file.
@@ -203,25 +214,57 @@ fn done(
     world: &mut Disk,
     disk: &mut Minidisk,
     case: &str,
-) -> Result<String, AllocError> {
-    match file_of(alloc, word(case, 3)) {
-        Some(file) => {
-            let answer = all_on(alloc, world, disk, case, &file);
-            told_of(alloc, world, disk, answer, case)
+    file: &FileData,
+) -> Result<String, AllocError>
+    requires { IsValid file.now }
+{
+    let answer = all_on(alloc, world, disk, case, file);
+    match word(case, 1) {
+        "logged" => told_logged(alloc, world, answer),
+        _ => told_of(alloc, world, disk, answer, case),
+    }
+}
+
+// The same on the unit of a world, or why there is no minidisk.
+fn done_with(
+    alloc: Global,
+    world: &mut Disk,
+    case: &str,
+    file: &FileData,
+) -> Result<String, AllocError>
+    requires { IsValid file.now }
+{
+    match minidisk(alloc, world, access_of(word(case, 1))) {
+        Ok(mut disk) => {
+            let told = done(alloc, world, &mut disk, case, file);
+            drop(disk);
+            told
         }
+        Err(fault) => told(alloc, &fault),
+    }
+}
+
+// What a case comes to in a world.
+fn answer_in(alloc: Global, world: &mut Disk, case: &str) -> Result<String, AllocError> {
+    match file_of(alloc, word(case, 3)) {
+        Some(file) => done_with(alloc, world, case, &file),
         None => String::from_str(alloc, "no file"),
+    }
+}
+
+// The world of a case.
+fn world_of_case(alloc: Global, case: &str) -> Result<Disk, AllocError> {
+    let image = image_named(alloc, word(case, 2))?;
+    match word(case, 1) {
+        "logged" => Disk::logged(alloc, &image),
+        _ => Ok(world_of(image)),
     }
 }
 
 /// What a case comes to.
 pub fn answer(alloc: Global, case: &str) -> Result<String, AllocError> {
-    let image = image_named(alloc, word(case, 2))?;
-    if word(case, 1) == "logged" {
-        return logged(alloc, &image, case);
-    }
-    let mut world = world_of(image);
-    match minidisk(alloc, &mut world, access_of(word(case, 1))) {
-        Ok(mut disk) => done(alloc, &mut world, &mut disk, case),
-        Err(fault) => told(alloc, &fault),
-    }
+    let mut world = world_of_case(alloc, case)?;
+    let answer = answer_in(alloc, &mut world, case);
+    drop(world);
+    answer
 }

@@ -70,8 +70,14 @@ doubt/0 => None asrrrr 1";
 // A cursor on V FILE.
 fn cursor_on(alloc: Global, world: &mut Disk) -> Option<Cursor> {
     let name = file_named("V")?;
-    let disk = minidisk(alloc, world, Access::ReadOnly).ok()?;
-    disk.cursor(alloc, &name).ok()
+    match minidisk(alloc, world, Access::ReadOnly) {
+        Ok(disk) => {
+            let cursor = disk.cursor(alloc, &name);
+            drop(disk);
+            cursor.ok()
+        }
+        Err(_) => None,
+    }
 }
 
 // The length of the next record, 0 behind the last.
@@ -98,13 +104,16 @@ fn lengths(
     Ok(text)
 }
 
-// What comes of V FILE.
-fn records(alloc: Global, case: &str) -> Result<String, AllocError> {
-    let mut world = world_of(image_named(alloc, "spanning")?);
+// What comes of V FILE in a world.
+fn records(alloc: Global, world: &mut Disk, case: &str) -> Result<String, AllocError> {
     world.failing = number(word(case, 1)) as usize;
     world.altering = number(word(case, 2)) as usize;
-    match cursor_on(alloc, &mut world) {
-        Some(mut cursor) => lengths(alloc, &mut world, &mut cursor, number(word(case, 3))),
+    match cursor_on(alloc, world) {
+        Some(mut cursor) => {
+            let told = lengths(alloc, world, &mut cursor, number(word(case, 3)));
+            drop(cursor);
+            told
+        }
         None => String::from_str(alloc, "no cursor"),
     }
 }
@@ -159,8 +168,14 @@ fn behind(alloc: Global, disk: &Minidisk, name: &Name, count: u32) -> Option<Cur
 // A cursor on V FILE behind so many of its records.
 fn cursor_behind(alloc: Global, world: &mut Disk, count: u32) -> Option<Cursor> {
     let name = file_named("V")?;
-    let disk = minidisk(alloc, world, Access::ReadOnly).ok()?;
-    behind(alloc, &disk, &name, count)
+    match minidisk(alloc, world, Access::ReadOnly) {
+        Ok(disk) => {
+            let cursor = behind(alloc, &disk, &name, count);
+            drop(disk);
+            cursor
+        }
+        Err(_) => None,
+    }
 }
 
 // The digit of the next record; a blank behind the last, and a question mark where it isn't read.
@@ -188,10 +203,13 @@ fn digits_left(alloc: Global, world: &mut Disk, cursor: &mut Cursor) -> Result<S
 }
 
 // What comes where so many records are passed over.
-fn passed_over(alloc: Global, count: u32) -> Result<String, AllocError> {
-    let mut world = world_of(digits(alloc)?);
-    match cursor_behind(alloc, &mut world, count) {
-        Some(mut cursor) => digits_left(alloc, &mut world, &mut cursor),
+fn passed_over(alloc: Global, world: &mut Disk, count: u32) -> Result<String, AllocError> {
+    match cursor_behind(alloc, world, count) {
+        Some(mut cursor) => {
+            let told = digits_left(alloc, world, &mut cursor);
+            drop(cursor);
+            told
+        }
         None => String::from_str(alloc, "no cursor"),
     }
 }
@@ -199,8 +217,14 @@ fn passed_over(alloc: Global, count: u32) -> Result<String, AllocError> {
 // What is read of the file of a letter; nothing where there is no minidisk or the letter is none.
 fn file_of(alloc: Global, world: &mut Disk, letter: &str) -> Option<Result<FileData, DiskFault>> {
     let name = file_named(letter)?;
-    let disk = minidisk(alloc, world, Access::ReadOnly).ok()?;
-    Some(disk.get(alloc, world, &name))
+    match minidisk(alloc, world, Access::ReadOnly) {
+        Ok(disk) => {
+            let file = disk.get(alloc, world, &name);
+            drop(disk);
+            Some(file)
+        }
+        Err(_) => None,
+    }
 }
 
 // The length, the count and the mode number of a file that was read, its stored bytes, whether they stand in the blocks from 7 on, and the
@@ -212,20 +236,23 @@ fn told_whole(alloc: Global, file: &FileData, world: &Disk) -> Result<String, Al
     format!(in alloc; "{numbers:?} {}", world.calls)
 }
 
-// What is told of a file that is read in an image.
-fn whole(alloc: Global, case: &str) -> Result<String, AllocError> {
-    let mut world = world_of(image_named(alloc, word(case, 1))?);
-    match file_of(alloc, &mut world, word(case, 2)) {
-        Some(Ok(file)) => told_whole(alloc, &file, &world),
-        _ => String::from_str(alloc, "no file"),
+// What is told of a file that was read, all of it or its bytes.
+fn told_file(
+    alloc: Global,
+    file: &FileData,
+    world: &Disk,
+    case: &str,
+) -> Result<String, AllocError> {
+    match word(case, 0) {
+        "whole" => told_whole(alloc, file, world),
+        _ => told(alloc, &file.bytes.bytes()),
     }
 }
 
-// The bytes of a file that is read in an image, or why it isn't.
-fn bytes_of(alloc: Global, case: &str) -> Result<String, AllocError> {
-    let mut world = world_of(image_named(alloc, word(case, 1))?);
-    match file_of(alloc, &mut world, word(case, 2)) {
-        Some(Ok(file)) => told(alloc, &file.bytes.bytes()),
+// The same of a file that is read in a world, or why it isn't.
+fn read_in(alloc: Global, world: &mut Disk, case: &str) -> Result<String, AllocError> {
+    match file_of(alloc, world, word(case, 2)) {
+        Some(Ok(file)) => told_file(alloc, &file, world, case),
         Some(Err(fault)) => told(alloc, &fault),
         None => String::from_str(alloc, "no minidisk"),
     }
@@ -256,9 +283,8 @@ fn place_of(disk: &Minidisk, letter: &str) -> Option<u32> {
     disk.find(&file_named(letter)?)
 }
 
-// The world of a case on one image.
-fn world_of_case(alloc: Global, case: &str) -> Result<Disk, AllocError> {
-    let mut world = world_of(image_named(alloc, word(case, 1))?);
+// Changes the image of a world, or has one of its calls fail, as a case says.
+fn change(world: &mut Disk, case: &str) {
     match word(case, 0) {
         "changed" => put_texts(world.image.as_mut_slice(), word(case, 2)),
         "failing" => {
@@ -266,7 +292,6 @@ fn world_of_case(alloc: Global, case: &str) -> Result<Disk, AllocError> {
         }
         _ => {}
     }
-    Ok(world)
 }
 
 // What is asked of a minidisk.
@@ -279,10 +304,14 @@ fn asked_of(alloc: Global, disk: &Minidisk, case: &str) -> Result<String, AllocE
 }
 
 // What is asked of the minidisk of a case, or why there is none.
-fn asked(alloc: Global, case: &str) -> Result<String, AllocError> {
-    let mut world = world_of_case(alloc, case)?;
-    match minidisk(alloc, &mut world, Access::ReadOnly) {
-        Ok(disk) => asked_of(alloc, &disk, case),
+fn asked(alloc: Global, world: &mut Disk, case: &str) -> Result<String, AllocError> {
+    change(world, case);
+    match minidisk(alloc, world, Access::ReadOnly) {
+        Ok(disk) => {
+            let answer = asked_of(alloc, &disk, case);
+            drop(disk);
+            answer
+        }
         Err(fault) => told(alloc, &fault),
     }
 }
@@ -296,26 +325,56 @@ fn access_in_doubt(alloc: Global, world: &mut MemWorld) -> Option<AccessFault> {
         return None;
     };
     match Minidisk::access(alloc, world, &info_of(unit, Access::ReadOnly), true) {
-        Ok(_) => None,
+        Ok(disk) => {
+            drop(disk);
+            None
+        }
         Err(fault) => Some(fault),
     }
 }
 
-// What comes of an access in doubt.
-fn doubt(alloc: Global, failing: u32) -> Result<String, AllocError> {
-    let mut world = world_with(alloc, &image_named(alloc, "one file")?, failing, false)?;
-    let fault = access_in_doubt(alloc, &mut world);
-    format!(in alloc; "{fault:?} {} {}", calls_of(&world), world.events())
+// What comes of an access in doubt in a world.
+fn doubt(alloc: Global, world: &mut MemWorld) -> Result<String, AllocError> {
+    let fault = access_in_doubt(alloc, world);
+    format!(in alloc; "{fault:?} {} {}", calls_of(world), world.events())
+}
+
+// The same where a call of the world fails.
+fn doubt_told(alloc: Global, failing: u32) -> Result<String, AllocError> {
+    let image = image_named(alloc, "one file")?;
+    let mut world = world_with(alloc, &image, failing, false)?;
+    let told = doubt(alloc, &mut world);
+    drop(world);
+    told
+}
+
+// The world of a case.
+fn world_of_case(alloc: Global, case: &str) -> Result<Disk, AllocError> {
+    let image = match word(case, 0) {
+        "next" => image_named(alloc, "spanning")?,
+        "skip" => digits(alloc)?,
+        _ => image_named(alloc, word(case, 1))?,
+    };
+    Ok(world_of(image))
+}
+
+// What a case comes to in the world of its image.
+fn answer_in(alloc: Global, world: &mut Disk, case: &str) -> Result<String, AllocError> {
+    match word(case, 0) {
+        "next" => records(alloc, world, case),
+        "skip" => passed_over(alloc, world, number(word(case, 1))),
+        "whole" | "get" => read_in(alloc, world, case),
+        _ => asked(alloc, world, case),
+    }
 }
 
 /// What a case comes to.
 pub fn answer(alloc: Global, case: &str) -> Result<String, AllocError> {
-    match word(case, 0) {
-        "next" => records(alloc, case),
-        "skip" => passed_over(alloc, number(word(case, 1))),
-        "whole" => whole(alloc, case),
-        "get" => bytes_of(alloc, case),
-        "doubt" => doubt(alloc, number(word(case, 1))),
-        _ => asked(alloc, case),
+    if word(case, 0) == "doubt" {
+        return doubt_told(alloc, number(word(case, 1)));
     }
+    let mut world = world_of_case(alloc, case)?;
+    let answer = answer_in(alloc, &mut world, case);
+    drop(world);
+    answer
 }

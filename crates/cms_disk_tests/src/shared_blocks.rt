@@ -288,16 +288,26 @@ fn written(alloc: Global, events: &[Event]) -> Result<String, AllocError> {
     Ok(text)
 }
 
+// How many files a minidisk has, how many blocks are free, the stored bytes of the first file, and whether there is Z FILE.
+fn state_of(alloc: Global, disk: &Minidisk) -> Result<String, AllocError> {
+    let stored = if disk.count() > 0 { disk.stored(0) } else { 0 };
+    let has_new = file_named("Z").map_or(false, |name| disk.has(&name));
+    told(alloc, &(disk.count(), disk.space().free, stored, has_new))
+}
+
 // What an image opens as: how many files it has, how many blocks are free, the stored bytes of the first file, and whether there is Z FILE.
 fn state(alloc: Global, image: Vec<u8>) -> Result<String, AllocError> {
-    match minidisk(alloc, &mut world_of(image), Access::ReadOnly) {
+    let mut world = world_of(image);
+    let state = match minidisk(alloc, &mut world, Access::ReadOnly) {
         Ok(disk) => {
-            let stored = if disk.count() > 0 { disk.stored(0) } else { 0 };
-            let has_new = file_named("Z").map_or(false, |name| disk.has(&name));
-            told(alloc, &(disk.count(), disk.space().free, stored, has_new))
+            let state = state_of(alloc, &disk);
+            drop(disk);
+            state
         }
         Err(fault) => told(alloc, &fault),
-    }
+    };
+    drop(world);
+    state
 }
 
 // From so many bytes on only the crashes are looked at that come with the label's write.
@@ -427,11 +437,17 @@ pub fn answer(alloc: Global, case: &str) -> Result<String, AllocError> {
     let asked = words.next().unwrap_or("");
     let place = number(words.next().unwrap_or(""));
     let other = words.next().map_or(place, number);
-    match minidisk(alloc, &mut world, Access::ReadWrite) {
-        Ok(mut disk) => match change(alloc, &mut world, &mut disk, asked, place, other) {
-            Ok(done) => told_of(alloc, &world, &disk, &done, case),
-            Err(fault) => told(alloc, &fault),
-        },
+    let answer = match minidisk(alloc, &mut world, Access::ReadWrite) {
+        Ok(mut disk) => {
+            let answer = match change(alloc, &mut world, &mut disk, asked, place, other) {
+                Ok(done) => told_of(alloc, &world, &disk, &done, case),
+                Err(fault) => told(alloc, &fault),
+            };
+            drop(disk);
+            answer
+        }
         Err(fault) => told(alloc, &fault),
-    }
+    };
+    drop(world);
+    answer
 }

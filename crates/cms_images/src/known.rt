@@ -39,6 +39,8 @@ enum Change {
     Label(u32, u32, u32),
     // An entry at a place of a block of the directory.
     Entry(u32, usize, Of, Row),
+    // The record HELLO at the front of each block from one to another.
+    Hello(usize, usize),
     // Bytes at a place of a block.
     Bytes(usize, usize, &'static [u8]),
 }
@@ -53,7 +55,7 @@ const EMPTY: &[Change] = &[
 
 // Then A FILE is written, one record HELLO: its data in block 7, the new map in block 8, the new directory in block 5.
 const ONE_FILE: &[Change] = &[
-    Change::Bytes(7, 0, &[0x00, 0x05, 0xC8, 0xC5, 0xD3, 0xD3, 0xD6]),
+    Change::Hello(7, 7),
     Change::Bytes(8, 0, &[0xFB, 0x00]),
     Change::Entry(5, 0, Of::Directory, Row(5, 1, 3, 0, 2)),
     Change::Entry(5, 64, Of::Map, Row(8, 1, 1, 0, 2)),
@@ -71,7 +73,7 @@ const ERASED: &[Change] = &[
 
 // Or B FILE is written behind A FILE: its data in block 6, the map in block 9, the directory in block 4.
 const TWO_FILES: &[Change] = &[
-    Change::Bytes(6, 0, &[0x00, 0x05, 0xC8, 0xC5, 0xD3, 0xD3, 0xD6]),
+    Change::Hello(6, 6),
     Change::Bytes(9, 0, &[0xFE, 0x80]),
     Change::Entry(4, 0, Of::Directory, Row(4, 1, 4, 0, 3)),
     Change::Entry(4, 64, Of::Map, Row(9, 1, 1, 0, 3)),
@@ -99,7 +101,7 @@ const FULL: &[Change] = &[
     Change::Entry(4, 0, Of::Directory, Row(4, 1, 3, 0, 0)),
     Change::Entry(4, 128, Of::File(0xC1, 5), Row(7, 1, 1, 0, 0)),
     Change::Bytes(6, 0, &[0xFF, 0x80]),
-    Change::Bytes(7, 0, &[0x00, 0x05, 0xC8, 0xC5, 0xD3, 0xD3, 0xD6]),
+    Change::Hello(7, 7),
     Change::Bytes(3, 32, &[0, 0, 0, 9]),
 ];
 
@@ -117,13 +119,7 @@ const LONG_DIRECTORY: &[Change] = &[
     Change::Entry(8, 0, Of::File(0xC7, 5), Row(15, 1, 1, 0, 0)),
     Change::Bytes(6, 0, &[0xFF, 0xFE]),
     Change::Bytes(7, 0, &[0, 0, 0, 4, 0, 0, 0, 8]),
-    Change::Bytes(9, 0, &[0x00, 0x05, 0xC8, 0xC5, 0xD3, 0xD3, 0xD6]),
-    Change::Bytes(10, 0, &[0x00, 0x05, 0xC8, 0xC5, 0xD3, 0xD3, 0xD6]),
-    Change::Bytes(11, 0, &[0x00, 0x05, 0xC8, 0xC5, 0xD3, 0xD3, 0xD6]),
-    Change::Bytes(12, 0, &[0x00, 0x05, 0xC8, 0xC5, 0xD3, 0xD3, 0xD6]),
-    Change::Bytes(13, 0, &[0x00, 0x05, 0xC8, 0xC5, 0xD3, 0xD3, 0xD6]),
-    Change::Bytes(14, 0, &[0x00, 0x05, 0xC8, 0xC5, 0xD3, 0xD3, 0xD6]),
-    Change::Bytes(15, 0, &[0x00, 0x05, 0xC8, 0xC5, 0xD3, 0xD3, 0xD6]),
+    Change::Hello(9, 15),
 ];
 
 // It has 17 blocks, of which its label says.
@@ -152,22 +148,7 @@ const SIXTEEN_FILES: &[Change] = &[
     Change::Entry(7, 448, Of::File(0xD5, 5), Row(23, 1, 1, 0, 0)),
     Change::Entry(8, 0, Of::File(0xD6, 5), Row(24, 1, 1, 0, 0)),
     Change::Entry(8, 64, Of::File(0xD7, 5), Row(25, 1, 1, 0, 0)),
-    Change::Bytes(10, 0, &[0x00, 0x05, 0xC8, 0xC5, 0xD3, 0xD3, 0xD6]),
-    Change::Bytes(11, 0, &[0x00, 0x05, 0xC8, 0xC5, 0xD3, 0xD3, 0xD6]),
-    Change::Bytes(12, 0, &[0x00, 0x05, 0xC8, 0xC5, 0xD3, 0xD3, 0xD6]),
-    Change::Bytes(13, 0, &[0x00, 0x05, 0xC8, 0xC5, 0xD3, 0xD3, 0xD6]),
-    Change::Bytes(14, 0, &[0x00, 0x05, 0xC8, 0xC5, 0xD3, 0xD3, 0xD6]),
-    Change::Bytes(15, 0, &[0x00, 0x05, 0xC8, 0xC5, 0xD3, 0xD3, 0xD6]),
-    Change::Bytes(16, 0, &[0x00, 0x05, 0xC8, 0xC5, 0xD3, 0xD3, 0xD6]),
-    Change::Bytes(17, 0, &[0x00, 0x05, 0xC8, 0xC5, 0xD3, 0xD3, 0xD6]),
-    Change::Bytes(18, 0, &[0x00, 0x05, 0xC8, 0xC5, 0xD3, 0xD3, 0xD6]),
-    Change::Bytes(19, 0, &[0x00, 0x05, 0xC8, 0xC5, 0xD3, 0xD3, 0xD6]),
-    Change::Bytes(20, 0, &[0x00, 0x05, 0xC8, 0xC5, 0xD3, 0xD3, 0xD6]),
-    Change::Bytes(21, 0, &[0x00, 0x05, 0xC8, 0xC5, 0xD3, 0xD3, 0xD6]),
-    Change::Bytes(22, 0, &[0x00, 0x05, 0xC8, 0xC5, 0xD3, 0xD3, 0xD6]),
-    Change::Bytes(23, 0, &[0x00, 0x05, 0xC8, 0xC5, 0xD3, 0xD3, 0xD6]),
-    Change::Bytes(24, 0, &[0x00, 0x05, 0xC8, 0xC5, 0xD3, 0xD3, 0xD6]),
-    Change::Bytes(25, 0, &[0x00, 0x05, 0xC8, 0xC5, 0xD3, 0xD3, 0xD6]),
+    Change::Hello(10, 25),
     Change::Bytes(6, 0, &[0xFF, 0xFF, 0xFF, 0x80]),
     Change::Bytes(9, 0, &[0, 0, 0, 4, 0, 0, 0, 7, 0, 0, 0, 8]),
 ];
@@ -186,24 +167,77 @@ const WIDE_MAP: &[Change] = &[
     Change::Entry(4, 128, Of::File(0xC1, 5), Row(9, 1, 1, 0, 0)),
     Change::Bytes(6, 0, &[0xFF, 0x80]),
     Change::Bytes(8, 0, &[0, 0, 0, 6, 0, 0, 0, 7]),
-    Change::Bytes(9, 0, &[0x00, 0x05, 0xC8, 0xC5, 0xD3, 0xD3, 0xD6]),
+    Change::Hello(9, 9),
 ];
 
+// The tables of what was written.
+#[derive(Clone, Copy)]
+enum Table {
+    Empty,
+    OneFile,
+    Erased,
+    TwoFiles,
+    Spanning,
+    Full,
+    LongDirectory,
+    On17,
+    On20,
+    SixteenFiles,
+    Label27,
+    Label28,
+    WideMap,
+}
+
+// What stands in a table. Each is named here alone, since the proof of a function takes longer with each constant that it names.
+fn changes_of(table: Table) -> &'static [Change] {
+    match table {
+        Table::Empty => EMPTY,
+        Table::OneFile => ONE_FILE,
+        Table::Erased => ERASED,
+        Table::TwoFiles => TWO_FILES,
+        Table::Spanning => SPANNING,
+        Table::Full => FULL,
+        Table::LongDirectory => LONG_DIRECTORY,
+        Table::On17 => ON_17,
+        Table::On20 => ON_20,
+        Table::SixteenFiles => SIXTEEN_FILES,
+        Table::Label27 => LABEL_27,
+        Table::Label28 => LABEL_28,
+        Table::WideMap => WIDE_MAP,
+    }
+}
+
 // The volumes by their names: their blocks, and what was written.
-const VOLUMES: &[(&str, usize, &[&[Change]])] = &[
+const VOLUMES: &[(&str, usize, &[Table])] = &[
     ("zeros", 9, &[]),
-    ("empty", 9, &[EMPTY]),
-    ("one file", 9, &[EMPTY, ONE_FILE]),
-    ("two files", 9, &[EMPTY, ONE_FILE, TWO_FILES]),
-    ("erased", 9, &[EMPTY, ONE_FILE, ERASED]),
-    ("full", 9, &[EMPTY, FULL]),
-    ("spanning", 12, &[SPANNING]),
-    ("long directory", 16, &[LONG_DIRECTORY]),
-    ("long directory on 17", 17, &[LONG_DIRECTORY, ON_17]),
-    ("long directory on 20", 20, &[LONG_DIRECTORY, ON_20]),
-    ("sixteen files", 28, &[LABEL_28, SIXTEEN_FILES]),
-    ("sixteen files on 27", 27, &[LABEL_27, SIXTEEN_FILES]),
-    ("wide map", 4112, &[WIDE_MAP]),
+    ("empty", 9, &[Table::Empty]),
+    ("one file", 9, &[Table::Empty, Table::OneFile]),
+    (
+        "two files",
+        9,
+        &[Table::Empty, Table::OneFile, Table::TwoFiles],
+    ),
+    ("erased", 9, &[Table::Empty, Table::OneFile, Table::Erased]),
+    ("full", 9, &[Table::Empty, Table::Full]),
+    ("spanning", 12, &[Table::Spanning]),
+    ("long directory", 16, &[Table::LongDirectory]),
+    (
+        "long directory on 17",
+        17,
+        &[Table::LongDirectory, Table::On17],
+    ),
+    (
+        "long directory on 20",
+        20,
+        &[Table::LongDirectory, Table::On20],
+    ),
+    ("sixteen files", 28, &[Table::Label28, Table::SixteenFiles]),
+    (
+        "sixteen files on 27",
+        27,
+        &[Table::Label27, Table::SixteenFiles],
+    ),
+    ("wide map", 4112, &[Table::WideMap]),
 ];
 
 // Puts the label.
@@ -257,6 +291,16 @@ fn entry_of(of: Of, row: Row) -> Entry {
     }
 }
 
+// A record HELLO of V, behind its length.
+const HELLO: &[u8] = &[0x00, 0x05, 0xC8, 0xC5, 0xD3, 0xD3, 0xD6];
+
+// Puts that record at the front of each block from one to another.
+fn put_hello(image: &mut [u8], first: usize, last: usize) {
+    for block in first..=last {
+        put(image, block, 0, HELLO);
+    }
+}
+
 // Puts what was written.
 fn put_change(image: &mut [u8], change: &Change) {
     match change {
@@ -268,15 +312,16 @@ fn put_change(image: &mut [u8], change: &Change) {
                 &entry_of(*of, *row),
             )
         }
+        Change::Hello(first, last) => put_hello(image, *first, *last),
         Change::Bytes(block, at, bytes) => put(image, *block, *at, bytes),
     }
 }
 
 // A volume of so many blocks, with what was written.
-fn volume(alloc: Global, blocks: usize, tables: &[&[Change]]) -> Result<Vec<u8>, AllocError> {
+fn volume(alloc: Global, blocks: usize, tables: &[Table]) -> Result<Vec<u8>, AllocError> {
     let mut image = vec![in alloc; 0; blocks.saturating_mul(BLOCK)]?;
-    for changes in tables {
-        for change in *changes {
+    for table in tables {
+        for change in changes_of(*table) {
             put_change(image.as_mut_slice(), change);
         }
     }

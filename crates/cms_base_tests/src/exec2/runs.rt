@@ -375,6 +375,7 @@ fn next_want(exec: &mut Exec, turn: &mut u32) -> Result<Want, AllocError> {
     if !matches!(&want, Want::Next) {
         return Ok(want);
     }
+    drop(want);
     let now = moment(*turn);
     *turn = turn.saturating_add(1);
     exec.turn(&now)
@@ -492,20 +493,27 @@ fn most_turns(last: &str) -> u32 {
     last.strip_prefix("turns ").map_or(TURNS, number)
 }
 
-/// What a row's procedure wants, with the turns that it takes where the row asks for these.
+// Adds what a row's procedure wants, with the turns that it takes where the row asks for these.
+fn push_answer(
+    into: &mut String,
+    alloc: Global,
+    exec: &mut Exec,
+    case: &str,
+) -> Result<(), AllocError> {
+    let last = field(case, 3);
+    let turns = push_wants(into, alloc, exec, field(case, 2), most_turns(last))?;
+    if last.is_empty() {
+        return Ok(());
+    }
+    write!(into, ";turns {turns}")
+}
+
+/// What a row's procedure wants.
 pub fn answer(alloc: Global, case: &str) -> Result<String, AllocError> {
     let mut exec = started(alloc, field(case, 0), field(case, 1))?;
     let mut told = String::new(alloc);
-    let last = field(case, 3);
-    let turns = push_wants(
-        &mut told,
-        alloc,
-        &mut exec,
-        field(case, 2),
-        most_turns(last),
-    )?;
-    if !last.is_empty() {
-        write!(told, ";turns {turns}")?;
-    }
+    let done = push_answer(&mut told, alloc, &mut exec, case);
+    drop(exec);
+    done?;
     Ok(told)
 }

@@ -126,5 +126,8 @@ fn push_message(into: &mut String, alloc: Global, message: &Message) -> Result<(
 
 /// Adds the text of the message of a case.
 pub fn push_text(into: &mut String, alloc: Global, case: &str) -> Result<(), AllocError> {
-    push_message(into, alloc, &message(alloc, case)?)
+    let message = message(alloc, case)?;
+    let done = push_message(into, alloc, &message);
+    drop(message);
+    done
 }

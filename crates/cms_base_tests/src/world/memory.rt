@@ -262,5 +262,8 @@ fn first_other(alloc: Global, world: &mut MemWorld, case: &str) -> Result<String
 pub fn answer(alloc: Global, case: &str) -> Result<String, AllocError> {
     let script = word(case, 0).as_bytes();
     let start = word(case, 1).parse().unwrap_or(0);
-    first_other(alloc, &mut MemWorld::new(alloc, script, start)?, case)
+    let mut world = MemWorld::new(alloc, script, start)?;
+    let other = first_other(alloc, &mut world, case);
+    drop(world);
+    other
 }

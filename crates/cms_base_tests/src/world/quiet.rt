@@ -141,5 +141,8 @@ fn first_other(alloc: Global, world: &mut QuietWorld, steps: &str) -> Result<Str
 
 /// Whether each step comes to what it says, or the first that doesn't.
 pub fn answer(alloc: Global, case: &str) -> Result<String, AllocError> {
-    first_other(alloc, &mut world(alloc)?, case)
+    let mut world = world(alloc)?;
+    let other = first_other(alloc, &mut world, case);
+    drop(world);
+    other
 }

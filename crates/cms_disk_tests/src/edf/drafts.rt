@@ -55,7 +55,10 @@ fn plan_in(alloc: Global, held: &mut Held, case: &str) -> Result<String, AllocEr
         return String::from_str(alloc, "no name");
     };
     match plan_draft(alloc, held, &name, &asked, &NOON) {
-        Ok(_) => String::from_str(alloc, "planned"),
+        Ok(draft) => {
+            drop(draft);
+            String::from_str(alloc, "planned")
+        }
         Err(why) => told(alloc, &why),
     }
 }
@@ -69,8 +72,14 @@ fn world_of(alloc: Global, case: &str) -> Result<MemWorld, AllocError> {
 /// What a case comes to.
 pub fn answer(alloc: Global, case: &str) -> Result<String, AllocError> {
     let mut world = world_of(alloc, case)?;
-    match open(alloc, &mut world, BlockSize::new(512)) {
-        Ok(mut held) => plan_in(alloc, &mut held, case),
+    let answer = match open(alloc, &mut world, BlockSize::new(512)) {
+        Ok(mut held) => {
+            let planned = plan_in(alloc, &mut held, case);
+            drop(held);
+            planned
+        }
         Err(fault) => told(alloc, &fault),
-    }
+    };
+    drop(world);
+    answer
 }

@@ -113,7 +113,10 @@ fn make_on(alloc: Global, world: &mut MemWorld, size: BlockSize) -> Result<Held,
     };
     match wipe(world, unit.number, size) {
         Ok(()) => {}
-        Err(why) => return Err(Refusal::Wiping(why)),
+        Err(why) => {
+            drop(plan);
+            return Err(Refusal::Wiping(why));
+        }
     }
     match make(world, plan) {
         Ok(held) => Ok(held),
@@ -124,7 +127,11 @@ fn make_on(alloc: Global, world: &mut MemWorld, size: BlockSize) -> Result<Held,
 // The state of the volume that is made, or why none is.
 fn made(alloc: Global, world: &mut MemWorld, size: BlockSize) -> Result<String, AllocError> {
     match make_on(alloc, world, size) {
-        Ok(held) => state(alloc, &held),
+        Ok(held) => {
+            let state = state(alloc, &held);
+            drop(held);
+            state
+        }
         Err(why) => told(alloc, &why),
     }
 }
@@ -180,11 +187,23 @@ fn held_on(
     format!(in alloc; "{made}, {bytes}, {opened}")
 }
 
+// Makes a volume in a world with zeros.
+fn made_in(
+    alloc: Global,
+    world: &mut MemWorld,
+    shape: &Made,
+    size: BlockSize,
+) -> Result<String, AllocError> {
+    let made = made(alloc, world, size)?;
+    held_on(alloc, shape, size, world, made.as_str())
+}
+
 // Makes a volume on zeros.
 fn made_on_zeros(alloc: Global, shape: &Made, size: BlockSize) -> Result<String, AllocError> {
     let mut world = zeros(alloc, shape)?;
-    let made = made(alloc, &mut world, size)?;
-    held_on(alloc, shape, size, &world, made.as_str())
+    let told = made_in(alloc, &mut world, shape, size);
+    drop(world);
+    told
 }
 
 // A block of an image.
@@ -283,11 +302,18 @@ fn used(alloc: Global, case: &str) -> Result<MemWorld, AllocError> {
     world_with(alloc, &image, failing, word(case, 2) == "landed")
 }
 
+// Makes a volume in a world with another one.
+fn made_again(alloc: Global, world: &mut MemWorld, case: &str) -> Result<String, AllocError> {
+    let made = made(alloc, world, BlockSize::new(512))?;
+    asked(alloc, world, case, made.as_str())
+}
+
 // Makes a volume over another one.
 fn made_over(alloc: Global, case: &str) -> Result<String, AllocError> {
     let mut world = used(alloc, case)?;
-    let made = made(alloc, &mut world, BlockSize::new(512))?;
-    asked(alloc, &world, case, made.as_str())
+    let told = made_again(alloc, &mut world, case);
+    drop(world);
+    told
 }
 
 /// What a case comes to.

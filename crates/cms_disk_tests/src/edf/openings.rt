@@ -199,8 +199,14 @@ fn world_of(alloc: Global, case: &str) -> Result<MemWorld, AllocError> {
 /// What a case comes to.
 pub fn answer(alloc: Global, case: &str) -> Result<String, AllocError> {
     let mut world = world_of(alloc, case)?;
-    match open(alloc, &mut world, BlockSize::new(512)) {
-        Ok(held) => asked(alloc, case, &held, &world),
+    let answer = match open(alloc, &mut world, BlockSize::new(512)) {
+        Ok(held) => {
+            let told = asked(alloc, case, &held, &world);
+            drop(held);
+            told
+        }
         Err(fault) => told(alloc, &fault),
-    }
+    };
+    drop(world);
+    answer
 }

@@ -44,8 +44,14 @@ pub fn state(alloc: Global, held: &Held) -> Result<String, AllocError> {
 /// The state of the volume that opens in an image, or why none does.
 pub fn opened(alloc: Global, image: &[u8], size: BlockSize) -> Result<String, AllocError> {
     let mut world = world_with(alloc, image, 0, false)?;
-    match open(alloc, &mut world, size) {
-        Ok(held) => state(alloc, &held),
+    let opened = match open(alloc, &mut world, size) {
+        Ok(held) => {
+            let state = state(alloc, &held);
+            drop(held);
+            state
+        }
         Err(fault) => told(alloc, &fault),
-    }
+    };
+    drop(world);
+    opened
 }

@@ -82,9 +82,13 @@ fn write_file(world: &mut Disk, held: &mut Held, draft: Draft, texts: &[&[u8]]) 
 {
     let mut draft = draft;
     for text in texts {
-        put_text(world, &mut draft, text)?;
+        if put_text(world, &mut draft, text).is_none() {
+            drop(draft);
+            return None;
+        }
     }
     if draft.records_left() > 0 || draft.bytes_left() > 0 {
+        drop(draft);
         return None;
     }
     commit(world, held, draft).ok()
@@ -131,7 +135,9 @@ fn put_file(
     let name = file_named(letter)?;
     let asked = shape_of(format, length, texts)?;
     let mut held = volume_on(alloc, world)?;
-    put_in(alloc, world, &mut held, &name, &asked, texts)
+    let done = put_in(alloc, world, &mut held, &name, &asked, texts);
+    drop(held);
+    done
 }
 
 // Erases the file of a name in a volume.
@@ -149,7 +155,9 @@ fn drop_in(alloc: Global, world: &mut Disk, held: &mut Held, name: &Name) -> Opt
 fn drop_file(alloc: Global, world: &mut Disk, letter: &str) -> Option<()> {
     let name = file_named(letter)?;
     let mut held = volume_on(alloc, world)?;
-    drop_in(alloc, world, &mut held, &name)
+    let done = drop_in(alloc, world, &mut held, &name);
+    drop(held);
+    done
 }
 
 // Moves the stamps of all files in a volume.
@@ -165,7 +173,9 @@ fn move_in(alloc: Global, world: &mut Disk, held: &mut Held) -> Option<()> {
 // Moves the stamps of all files on a disk.
 fn move_stamps(alloc: Global, world: &mut Disk) -> Option<()> {
     let mut held = volume_on(alloc, world)?;
-    move_in(alloc, world, &mut held)
+    let done = move_in(alloc, world, &mut held);
+    drop(held);
+    done
 }
 
 // Adds the end of a row of blocks, if there was one, and the start of the next.
@@ -319,10 +329,8 @@ fn disk_of(alloc: Global, case: &str) -> Result<Disk, AllocError> {
 // Puts A FILE with a record of 512 bytes, and then, in a world that keeps this alone, with two of them.
 fn grown(alloc: Global, world: &mut Disk) -> Option<()> {
     put_file(alloc, world, "A", Format::F, 512, &[TEXT])?;
-    let mut before = Disk::logged(alloc, &world.image).ok()?;
-    put_file(alloc, &mut before, "A", Format::F, 512, &[TEXT; 2])?;
-    *world = before;
-    Some(())
+    *world = Disk::logged(alloc, &world.image).ok()?;
+    put_file(alloc, world, "A", Format::F, 512, &[TEXT; 2])
 }
 
 // The last change of a case.
@@ -351,8 +359,10 @@ fn asked(alloc: Global, world: &Disk, case: &str) -> Result<String, AllocError> 
 /// What a case comes to.
 pub fn answer(alloc: Global, case: &str) -> Result<String, AllocError> {
     let mut world = disk_of(alloc, case)?;
-    match changed(alloc, &mut world, case) {
+    let answer = match changed(alloc, &mut world, case) {
         Some(()) => asked(alloc, &world, case),
         None => String::from_str(alloc, "not changed"),
-    }
+    };
+    drop(world);
+    answer
 }
