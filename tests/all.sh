@@ -17,7 +17,7 @@ trap 'rm -rf "$folder"' EXIT
 scripts() {
     cat <<'LIST'
 program.sh       git     statuses, what is typed, and what is said on standard error
-examples.py      -       the examples of README.md and docs/cms.1 type what these show
+examples.py      -       the examples of README.md, docs/SESSIONS.md and docs/cms.1 type what these show
 volumes.py       -       makes volumes of several directory and map blocks, and reads them as they were made
 updates.py       -       foretells what updates of such volumes write, and looks at what stands then
 exact.py         strace  updates on volumes, whose writes must be those that updates.py foretells

@@ -1,5 +1,5 @@
 #!/usr/bin/env python3
-"""Runs the examples of README.md and of the manual page on the built program: each must type what the document shows.
+"""Runs the examples of README.md, docs/SESSIONS.md and the manual page on the built program: each must type what the document shows.
 
     tests/examples.py
 
@@ -20,6 +20,7 @@ from runs import PROGRAM, ROOT, SECONDS
 
 EXAMPLES = ROOT / "examples"
 PAGE = "docs/cms.1"
+SESSIONS = "docs/SESSIONS.md"
 
 
 class Example(NamedTuple):
@@ -34,14 +35,14 @@ class Example(NamedTuple):
 RUNS = [
     Example("README.md", "* what is there", ["191,512,ro,disk.img"], "hello.txt"),
     Example("README.md", "FORMAT 192 B", ["191,512,ro,disk.img", "192,1024,n60,work.img"], "format.txt"),
-    Example("README.md", "* a list is written, mended and typed", ["191,1024,n60,notes.img"], "edit.txt"),
-    Example("README.md", "FORMAT 191 A", ["191,1024,n100,keep.img"]),
+    Example(SESSIONS, "* a list is written, mended and typed", ["191,1024,n60,notes.img"], "edit.txt"),
+    Example(SESSIONS, "FORMAT 191 A", ["191,1024,n100,keep.img"]),
     Example(PAGE, "* the files of disk A, and some records of two of them", ["191,512,rw,files.img"], "files.txt"),
     Example(PAGE, "EXECIO 9 DISKW FIRST EXEC A", ["191,512,rw,files.img"], "procedure.txt"),
 ]
 
-# A later session on the image that the last example of the README made: its lines stand in the text, and what it types behind them.
-CHECKED = Example("README.md", "CMS723I A (191) R/O", ["191,1024,ro,keep.img"])
+# A later session on the image that the last example of docs/SESSIONS.md made: its lines stand in the text, and what it types behind them.
+CHECKED = Example(SESSIONS, "CMS723I A (191) R/O", ["191,1024,ro,keep.img"])
 CHECKING = "ACCESS 191 A\nQUERY DISK A\n"
 
 
