@@ -2,6 +2,8 @@ pub mod CrashStates
 pub mod BytesTaken
 pub mod ReadMoves
 pub mod ReadSteps
+pub mod NextSteps
+pub mod Refused
 pub mod QuietUnits
 pub mod FilesFound
 pub mod FilesTold
@@ -20,6 +22,7 @@ pub mod Added
 pub mod ChangeSteps
 pub mod StepPieces
 pub mod MakeSteps
+pub mod MakeExits
 pub mod FirstStarts
 pub mod MoreDrafts
 pub mod Lengthened

@@ -10,6 +10,7 @@ mod Fronts
 mod GivenNames
 mod Guards
 mod KeywordsSaid
+mod Numbered
 mod OneSet
 mod OneWord
 mod Passed
@@ -18,6 +19,7 @@ pub mod Places
 mod Searches
 mod SentWords
 mod Settled
+mod Statements
 mod Sums
 mod Tails
 mod Undone

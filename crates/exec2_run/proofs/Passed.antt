@@ -1,5 +1,5 @@
 -- What is answered where a part of a function failed.
-use Rattle.std.proofs.Common.{◌≡◌, ◌∙◌, ◌⊎◌, inl, inr, Result, Ok, Err, sym, ap}
+use Rattle.std.proofs.Common.{◌≡◌, ◌∙◌, ◌⊎◌, inl, inr, Result, Ok, Err, sym, ap, subst}
 use Rattle.std.specs.Result.{IsErrAnd, MatchResult}
 use Rattle.exec2_run.specs.Faults.{Answers, Does, Leads}
 use Rattle.exec2_run.specs.declared.fault.Fault.{Fault}
@@ -54,3 +54,17 @@ match_fails_so defined (Err e) P why h is = is ∙ ap Err (sym h)
 pub equals_so : {A : Type 0} (defined r : Result A Fault) (why : Fault) → IsErrAnd r (λ e. e ≡ why) → defined ≡ Err why → r ≡ defined
 equals_so defined (Ok x) why h is = absurd h
 equals_so defined (Err e) why h is = ap Err h ∙ sym is
+
+pub does_fails_so : {S A : Type 0} (defined : Result (S × A) Fault) (old new : S) (r : Result A Fault) (why : Fault) → new ≡ old → IsErrAnd r (λ e. e ≡ why) → defined ≡ Err why → Does defined old new r
+does_fails_so defined old new (Ok x) why same h is = absurd h
+does_fails_so defined old new (Err e) why same h is = (same, inr (is ∙ ap Err (sym h)))
+
+pub does_part_fail : {S A : Type 0} (defined : Result (S × A) Fault) (old new : S) (r : Result A Fault) (why : Fault) (P : Type 0) → new ≡ old → IsErrAnd r (λ e. e ≡ why)
+    → (why ≡ Memory) ⊎ P → (P → defined ≡ Err why) → Does defined old new r
+does_part_fail defined old new (Ok x) why P same h said led = absurd h
+does_part_fail defined old new (Err e) why P same h (inl want) led = (same, inl (h ∙ want))
+does_part_fail defined old new (Err e) why P same h (inr is) led = (same, inr (led is ∙ ap Err (sym h)))
+
+-- the last part answers for all
+pub answers_as : {A : Type 0} (d e r : Result A Fault) → d ≡ e → Answers e r → Answers d r
+answers_as {A} d e r same h = subst (λ (x : Result A Fault). Answers x r) (sym same) h

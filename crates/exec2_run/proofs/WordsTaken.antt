@@ -1,18 +1,20 @@
 -- What &GOTO, &SKIP and a comparison of &LOOP make of their words.
-use Rattle.std.proofs.Common.{◌≡◌, ◌∙◌, ◌∷◌, [], ◌-◌, ◌<◌, ◌≤◌, ℕ, suc, Bool, List, pos, length, take, drop, get_or, ok_or, refl, sym, ap, arith}
+use Rattle.std.proofs.Common.{◌≡◌, ◌∙◌, ◌∷◌, [], ◌-◌, ◌<◌, ◌≤◌, ℕ, ℤ, suc, Bool, List, pos, length, take, drop, get_or, ok_or, refl, sym, ap, arith}
 use Rattle.std.specs.Prelude.{Ok, Err}
 use Rattle.std.proofs.lemmas.List.{take_all}
 use Rattle.cms_text.specs.Numbers.{number_of}
 use Rattle.cms_text.specs.Texts.{Text}
 use Rattle.exec2_parse.specs.Expansion.{Binding}
 use Rattle.exec2_run.specs.Comparisons.{comparison_of}
-use Rattle.exec2_run.specs.Jumps.{gone_by, place_after, place_named, skipped_by}
+use Rattle.exec2_run.specs.Given.{seen}
+use Rattle.exec2_run.specs.Jumps.{gone_by, place_after, place_named, skipped, skipped_by}
 use Rattle.exec2_run.specs.Loops.{test_in}
 use Rattle.exec2_run.specs.State.{Exec}
 use Rattle.exec2_run.specs.Values.{ended, missing, operands, whole}
 use Rattle.exec2_run.specs.declared.comparison.Comparison.{Comparison}
 use Rattle.exec2_run.specs.declared.fault.Fault.{Fault}
 use Rattle.exec2_run.specs.declared.fault.Fault.TheVariants.{BadStatement, NotNumber}
+use Rattle.exec2_run.specs.declared.values.Operands.{Operands}
 use Rattle.exec2_run.specs.declared.want.Want.TheVariants.{Next}
 use Rattle.exec2_run.proofs.FirstWord.{first_and_rest, none_left}
 
@@ -94,3 +96,26 @@ module _ (s : Exec) (words : List Text) (count text : Text) (is_cut : Bool) (som
 
   pub skips_no_number : (why : Fault) → Err why ≡ ok_or (number_of text) NotNumber → skipped_by s words is_cut ≡ Err why
   skips_no_number why bad = let here = ap (λ (t : Text). ok_or (number_of t) NotNumber) (sym same) ∙ sym bad in counted ∙ rw here refl
+
+  number_is : (n : ℤ) → Ok n ≡ ok_or (number_of text) NotNumber → ok_or (number_of count) NotNumber ≡ Ok n
+  number_is n good = ap (λ (t : Text). ok_or (number_of t) NotNumber) (sym same) ∙ sym good
+
+  pub skips_past : (n : ℤ) (why : Fault) → Ok n ≡ ok_or (number_of text) NotNumber → Err why ≡ place_after s n → skipped_by s words is_cut ≡ Err why
+  skips_past n why good bad = let here = number_is n good in counted ∙ rw (here, sym bad) refl
+
+  pub skips_more : (n : ℤ) (place : ℕ) (why : Fault) → Ok n ≡ ok_or (number_of text) NotNumber → Ok place ≡ place_after s n
+      → Err why ≡ ended (take (length words - 1) (drop 1 words)) is_cut → skipped_by s words is_cut ≡ Err why
+  skips_more n place why good there bad = let here = number_is n good in counted ∙ rw (here, sym there, sym bad) refl
+
+  pub skips_so : (n : ℤ) (place : ℕ) (u : Unit {0}) → Ok n ≡ ok_or (number_of text) NotNumber → Ok place ≡ place_after s n
+      → Ok u ≡ ended (take (length words - 1) (drop 1 words)) is_cut → skipped_by s words is_cut ≡ Ok (record s { next = place }, Next)
+  skips_so n place u good there last = let here = number_is n good in counted ∙ rw (here, sym there, sym last) refl
+
+-- ---- &SKIP
+
+-- what it comes to by what its words become
+pub skipped_as : (s : Exec) (names : Binding) (words : List Text) (o : Operands) (ws : List Text) → names ≡ seen s → o ≡ operands names words → ws ≡ o.words
+    → skipped s words ≡ skipped_by s ws o.is_cut
+unfolding skipped
+skipped_as s names words o ws seen_is is same =
+    ap (λ (p : Operands). skipped_by s p.words p.is_cut) (sym (is ∙ ap (λ (n : Binding). operands n words) seen_is)) ∙ ap (λ (l : List Text). skipped_by s l o.is_cut) (sym same)

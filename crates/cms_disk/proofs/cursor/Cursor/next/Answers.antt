@@ -1,12 +1,14 @@
-use Rattle.std.proofs.Common.{◌≡◌, subst, ◌≤◌, ◌⊎◌, inl, inr, Err, true, false, refl, sym, ◌∙◌, ap, arith}
+use Rattle.std.proofs.Common.{◌≡◌, subst, ◌≤◌, ◌⊎◌, inl, inr, Err, true, false, refl, sym, ◌∙◌, ap, arith, Bool, ◌-◌}
 use Rattle.std.proofs.lemmas.Bool.{true≢false}
 use Rattle.cms_journal.specs.Journal.{contents_of}
 use Rattle.cms_model.specs.Trees.{image_of}
-use Rattle.cms_disk.specs.Cursors.{Cursor, HoldsLittle, WaitsFor}
+use Rattle.cms_disk.specs.Cursors.{Cursor, HoldsLittle, WaitsFor, Gives, IsNeeded, SameFile, TextFits}
 use Rattle.cms_disk.proofs.ReadMoves.{none_more}
 use Rattle.cms_edf.proofs.Exits.{ok_at_err, reads_at_err, reads_behind, same_at_err}
 use Rattle.cms_disk.specs.declared.fault.DiskFault.TheVariants.{Device, Altered}
 use Rattle.cms_disk.proofs.ReadSteps.{altered_device, blocks_same, err_is, none_some, ok_err, same_on, same_read, same_taken, some_not}
+use Rattle.cms_disk.proofs.NextSteps.{after_both, begun_next, fewer_blocks, file_left, hands_none, held_left, left_on, needed_taken, one_less, reading_left, some_as, text_left, waits_for}
+use Rattle.cms_disk.specs.contracts.cursor.Cursor.{the_view}
 use Rattle.cms_disk.proofs.cursor.Cursor.next.Goals as goal
 
 pub returns-then-self-eq0-clause-records : goal.returns-then-self-eq0-clause-records
@@ -172,3 +174,124 @@ returns-clause-fault g c = tt
 
 pub returns-clause-marked : goal.returns-clause-marked
 returns-clause-marked g c = tt
+
+pub returns-then-self-eq0-clause-some : goal.returns-then-self-eq0-clause-some
+returns-then-self-eq0-clause-some g c = (λ is. absurd (true≢false (sym is)), λ some. absurd (none_some _ (subst (λ (r : Cursor). r.left ≡ 0) c.self.view_is c.if-self-eq0.true) some))
+
+pub returns-then-self-eq0-clause-whole : goal.returns-then-self-eq0-clause-whole
+returns-then-self-eq0-clause-whole g c = λ is. absurd (true≢false (sym is))
+
+pub returns-then-self-eq0-clause-text : goal.returns-then-self-eq0-clause-text
+returns-then-self-eq0-clause-text g c = λ is. absurd (true≢false (sym is))
+
+pub returns-then-self-eq0-clause-left : goal.returns-then-self-eq0-clause-left
+returns-then-self-eq0-clause-left g c = λ is. absurd (true≢false (sym is))
+
+pub returns-then-self-eq0-clause-needed : goal.returns-then-self-eq0-clause-needed
+returns-then-self-eq0-clause-needed g c = inl refl
+
+pub take-requires : goal.take-requires
+take-requires g c = tt
+
+pub returns-in_err-take-clause-records : goal.returns-in_err-take-clause-records
+returns-in_err-take-clause-records g c = λ j told records left.
+    let i = c.loop-self.invariant in
+    absurd (c.in_err-take.ensures.altered (image_of (contents_of j c.args.self.now.unit)) records (some_as _ _ i.left i.some) (i.records j told records left))
+
+pub read-requires-clause-waits : goal.read-requires-clause-waits
+read-requires-clause-waits g c = c.in_ok-take.ensures.waits c.if-not-branch.true
+
+pub loop-self-preserved : goal.loop-self-preserved
+loop-self-preserved g c =
+    let i = c.loop-self.invariant in
+    let first = c.args.self.now in
+    let old = c.loop-self.self in
+    let mid = c.take.new.self in
+    let new = c.read.new.self in
+    let took = c.in_ok-take.ensures in
+    let read = c.in_ok-read.ensures in
+    let file = same_on first old mid i.file (same_taken old mid took.same took.rules) in
+    record {
+      file = same_on first mid new file (same_read mid new read.same);
+      left = ap (λ (r : Cursor). r.left) read.same ∙ (ap (λ (r : Cursor). r.left) took.same ∙ i.left);
+      some = i.some;
+      altered = read.sound ∙ (took.sound ∙ i.altered);
+      records = λ j told records left.
+          let kept = subst (λ (b : Bool). Gives (image_of (contents_of j first.unit)) mid records b) c.if-not-branch.true
+          (took.gives (image_of (contents_of j first.unit)) records (some_as _ _ i.left i.some) (i.records j told records left)) in
+          left_on j mid.unit first.unit mid new records file.unit (read.read j (i.told ∙ told) records) kept;
+      needed = begun_next first old mid i.needed took.same new (took.waits c.if-not-branch.true) read.same read.done.0 read.from.0 read.from.1;
+      told = read.reads.told ∙ i.told;
+      faults = after_both _ _ _ i.faults read.reads.faults;
+      edges = read.reads.edges ∙ i.edges;
+    }
+
+pub loop-self-smaller : goal.loop-self-smaller
+loop-self-smaller g c = fewer_blocks c.loop-self.self c.take.new.self c.read.new.self c.in_ok-take.ensures.same c.in_ok-read.ensures.same c.in_ok-read.ensures.done.0 c.in_ok-read.ensures.done.1
+
+pub overflow_sub-self : goal.overflow_sub-self
+overflow_sub-self g c =
+    let i = c.loop-self.invariant in
+    some_as _ _ (ap (λ (r : Cursor). r.left) c.self-2.view_is ∙ (ap (λ (r : Cursor). r.left) c.in_ok-take.ensures.same ∙ i.left)) i.some
+
+pub returns-in_err-read-clause-records : goal.returns-in_err-read-clause-records
+returns-in_err-read-clause-records g c = λ j told records left.
+    let i = c.loop-self.invariant in
+    let first = c.args.self.now in
+    let mid = c.take.new.self in
+    let took = c.in_ok-take.ensures in
+    let read = c.in_err-read.ensures in
+    let image = image_of (contents_of j first.unit) in
+    let kept = subst (λ (b : Bool). Gives image mid records b) c.if-not-branch.true (took.gives image records (some_as _ _ i.left i.some) (i.records j told records left)) in
+    hands_none image c.read.new.self records c.from_residual-in_err-read.result c.in_err-read.field-0.0 c.from_residual-in_err-read.ensures.1 read.fault (λ device. read.stays device image records kept)
+    (λ altered. read.altered altered image records (some_as _ _ (ap (λ (r : Cursor). r.left) took.same ∙ i.left) i.some) kept)
+
+pub returns-in_err-read-clause-waits : goal.returns-in_err-read-clause-waits
+returns-in_err-read-clause-waits g c =
+    let i = c.loop-self.invariant in
+    let first = c.args.self.now in
+    let took = c.in_ok-take.ensures in
+    same_at_err c.from_residual-in_err-read.result (λ e. e ≡ Device → WaitsFor first c.read.new.self) _ c.from_residual-in_err-read.ensures.1
+    (λ is. waits_for first c.loop-self.self c.take.new.self i.needed took.same c.read.new.self i.left i.altered took.sound (took.waits c.if-not-branch.true) (c.in_err-read.ensures.unread is))
+
+pub invariant_of-self : goal.invariant_of-self
+invariant_of-self g c =
+    let v = c.self-2.invariant in
+    let inside = c.self-2.inside in
+    record { reading = reading_left (the_view inside) (inside.left - 1) v.reading; longest = v.longest }
+
+pub returns-clause-records : goal.returns-clause-records
+returns-clause-records g c = λ j told records left.
+    let i = c.loop-self.invariant in
+    let image = image_of (contents_of j c.args.self.now.unit) in
+    subst (λ (r : Cursor). Gives image r records true) (sym c.self-2.view_is)
+    (subst (λ (b : Bool). Gives image c.take.new.self records b) c.if-not-branch.false (c.in_ok-take.ensures.gives image records (some_as _ _ i.left i.some) (i.records j told records left)))
+
+pub returns-clause-some : goal.returns-clause-some
+returns-clause-some g c = (λ is. c.loop-self.invariant.some, λ some. refl)
+
+pub returns-clause-whole : goal.returns-clause-whole
+returns-clause-whole g c = λ is. ap (λ (r : Cursor). r.begun.whole) c.self-2.view_is ∙ c.in_ok-take.ensures.whole c.if-not-branch.false
+
+pub returns-clause-text : goal.returns-clause-text
+returns-clause-text g c = λ is. text_left (the_view c.self-2.inside) (c.self-2.inside.left - 1) (subst TextFits (sym c.self-2.view_is) (c.in_ok-take.ensures.text c.if-not-branch.false))
+
+pub returns-clause-left : goal.returns-clause-left
+returns-clause-left g c = λ is.
+    let i = c.loop-self.invariant in
+    one_less _ _ i.some (ap (λ (r : Cursor). r.left) c.self-2.view_is ∙ (ap (λ (r : Cursor). r.left) c.in_ok-take.ensures.same ∙ i.left))
+
+pub returns-clause-needed : goal.returns-clause-needed
+returns-clause-needed g c =
+    let took = c.in_ok-take.ensures in
+    subst (λ (r : Cursor). IsNeeded c.args.self.now (record r { left = r.left - 1 })) (sym c.self-2.view_is)
+    (needed_taken c.args.self.now c.loop-self.self c.take.new.self c.loop-self.invariant.needed took.same (c.take.new.self.left - 1) took.some)
+
+pub returns-clause-held : goal.returns-clause-held
+returns-clause-held g c = held_left (the_view c.self-2.inside) (c.self-2.inside.left - 1) c.self-2.invariant.reading.held
+
+pub returns-clause-file : goal.returns-clause-file
+returns-clause-file g c =
+    let took = c.in_ok-take.ensures in
+    let file = same_on c.args.self.now c.loop-self.self c.take.new.self c.loop-self.invariant.file (same_taken c.loop-self.self c.take.new.self took.same took.rules) in
+    file_left c.args.self.now (the_view c.self-2.inside) (c.self-2.inside.left - 1) (subst (SameFile c.args.self.now) (sym c.self-2.view_is) file)

@@ -1,10 +1,13 @@
-use Rattle.std.proofs.Common.{rules, ◌≡◌, ◌≤◌, ◌-◌, ℕ, List, drop, Err, sym, ap, subst, arith, length-drop, ◌++◌, true, false, refl, ◌∙◌}
+use Rattle.std.proofs.Common.{rules, ◌≡◌, ◌≤◌, ◌-◌, ℕ, List, drop, Err, sym, ap, subst, arith, length-drop, ◌++◌, true, false, refl, ◌∙◌, Bool}
 use Rattle.std.proofs.lemmas.Bool.{true≢false}
-use Rattle.cms_records.specs.Pieces.{Takes, bytes_so_far, next_place, record_size}
+use Rattle.cms_records.specs.Pieces.{Takes, bytes_so_far, next_place, record_size, RecordState}
 use Rattle.cms_disk.specs.Cursors.{Cursor, HasLeft, IsShort, HoldsLittle}
 use Rattle.cms_disk.proofs.BytesTaken.{takes_some}
 use Rattle.cms_disk.proofs.ReadMoves.{take_gives, take_altered}
 use Rattle.cms_disk.specs.contracts.cursor.Cursor.{the_view}
+use Rattle.cms_disk.specs.CursorFields.{AreSound}
+use Rattle.cms_disk.proofs.NextSteps.{few_taken, reading_taken, taken_in, text_taken, waits_taken}
+use Rattle.cms_disk.proofs.ReadSteps.{reading_altered}
 use Rattle.cms_disk.proofs.cursor.Cursor.take.Goals as goal
 
 pub returns-in-Ok-clause-gives : goal.returns-in-Ok-clause-gives
@@ -126,3 +129,60 @@ returns-in-Ok-clause-fault c = tt
 
 pub returns-in-Ok-clause-marked : goal.returns-in-Ok-clause-marked
 returns-in-Ok-clause-marked c = tt
+
+pub returns-then-self-clause-same : goal.returns-then-self-clause-same
+returns-then-self-clause-same c = refl
+
+pub feed-requires-clause-from : goal.feed-requires-clause-from
+feed-requires-clause-from c =
+    let r = c.self.invariant.reading in
+    taken_in c.self.inside.from c.self.inside.bsize c.deref.result.now c.self.inside.block.items c.deref.ensures.value r.held.block r.taken
+
+pub feed-requires-clause-few : goal.feed-requires-clause-few
+feed-requires-clause-few c = few_taken (the_view c.self.inside) c.deref.result.now c.deref.ensures.value (search rules) c.self.invariant.reading
+
+pub invariant_of-self : goal.invariant_of-self
+invariant_of-self c =
+    let v = c.self.inside in
+    let fed = c.in-Ok.ensures in
+    record {
+      reading = reading_taken (the_view v) c.feed.new.self c.in-Ok.fed.next c.deref.result.now c.in-Ok.fed.whole c.deref.ensures.value fed.taken fed.next fed.held fed.rules c.self.invariant.reading;
+      longest = c.self.invariant.longest ∙ sym fed.rules.1;
+    }
+
+pub invariant_of-self-in-Err : goal.invariant_of-self-in-Err
+invariant_of-self-in-Err c =
+    let v = c.self.inside in
+    subst (λ (b : RecordState). AreSound (record v { begun = b; altered = true })) (sym c.in-Err.ensures.refused)
+    (record { reading = reading_altered (the_view v) c.self.invariant.reading; longest = c.self.invariant.longest })
+
+pub returns-in-Ok-clause-whole : goal.returns-in-Ok-clause-whole
+returns-in-Ok-clause-whole c = λ whole. c.in-Ok.ensures.taken.told.0 ∙ whole
+
+pub returns-in-Ok-clause-text : goal.returns-in-Ok-clause-text
+returns-in-Ok-clause-text c = λ whole.
+    let v = c.self.inside in
+    text_taken (the_view v) c.feed.new.self c.in-Ok.fed.next c.deref.result.now
+    (subst (λ (b : Bool). Takes v.begun c.feed.new.self (drop v.from c.deref.result.now) (c.in-Ok.fed.next - v.from) b) whole c.in-Ok.ensures.taken) c.self.invariant.reading
+
+pub returns-in-Ok-clause-waits : goal.returns-in-Ok-clause-waits
+returns-in-Ok-clause-waits c = λ whole.
+    let v = c.self.inside in
+    waits_taken (the_view v) c.feed.new.self c.in-Ok.fed.next c.deref.result.now c.deref.ensures.value
+    (subst (λ (b : Bool). Takes v.begun c.feed.new.self (drop v.from c.deref.result.now) (c.in-Ok.fed.next - v.from) b) whole c.in-Ok.ensures.taken) c.in-Ok.ensures.next c.self.invariant.reading
+
+pub returns-in-Ok-clause-held : goal.returns-in-Ok-clause-held
+returns-in-Ok-clause-held c = record { block = c.self.invariant.reading.held.block; begun = c.in-Ok.ensures.held }
+
+pub returns-in-Ok-clause-rules : goal.returns-in-Ok-clause-rules
+returns-in-Ok-clause-rules c =
+    let rules = c.in-Ok.ensures.rules in
+    (rules.0 ∙ ap (λ (r : Cursor). r.begun.fixed) c.self.view_is, rules.1 ∙ ap (λ (r : Cursor). r.begun.longest) c.self.view_is)
+
+pub returns-in-Err-clause-held : goal.returns-in-Err-clause-held
+returns-in-Err-clause-held c = record { block = c.self.invariant.reading.held.block; begun = c.in-Err.ensures.held }
+
+pub returns-in-Err-clause-rules : goal.returns-in-Err-clause-rules
+returns-in-Err-clause-rules c =
+    let rules = c.in-Err.ensures.rules in
+    (rules.0 ∙ ap (λ (r : Cursor). r.begun.fixed) c.self.view_is, rules.1 ∙ ap (λ (r : Cursor). r.begun.longest) c.self.view_is)

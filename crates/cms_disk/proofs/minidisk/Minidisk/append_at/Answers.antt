@@ -1,6 +1,7 @@
 use Rattle.std.proofs.Common.{◌≡◌, inl, inr, Result, Ok, Err, false, List, [], refl, sym, ◌∙◌, ap, subst}
 use Rattle.std.specs.Prelude.{IfErr, ⊤}
 use Rattle.std.proofs.lemmas.Result.{err_from_is_err_and}
+use Rattle.std.proofs.lemmas.Bool.{true≢false}
 use Rattle.cms_journal.specs.Journal.{HasBlocks, IsWritable}
 use Rattle.cms_journal.specs.declared.event.Attached.{Attached}
 use Rattle.cms_fields.specs.declared.time.Stamp.{Stamp}
@@ -28,6 +29,7 @@ use Rattle.cms_disk.proofs.MoreDrafts.{behind_at, last_behind, may_extend, shape
 use Rattle.cms_disk.proofs.RecordsPut.{same_more, same_some}
 use Rattle.cms_disk.proofs.TooMany.{limited, no_room}
 use Rattle.cms_edf.proofs.Exits.{ok_at_err}
+use Rattle.cms_disk.proofs.Refused.{nothing_changed, read_only_none}
 use Rattle.cms_disk.proofs.minidisk.Minidisk.append_at.Goals as goal
 
 pub returns-then-not-is_writable-clause-appends : goal.returns-then-not-is_writable-clause-appends
@@ -271,3 +273,42 @@ returns-in-Err-clause-holds g c = tt
 
 pub returns-then-not-is_writable-clause-holds : goal.returns-then-not-is_writable-clause-holds
 returns-then-not-is_writable-clause-holds g c = tt
+
+pub returns-then-not-is_writable-clause-read_only : goal.returns-then-not-is_writable-clause-read_only
+returns-then-not-is_writable-clause-read_only g c = λ is. sym c.is_writable.ensures ∙ c.if-not-is_writable.true
+
+pub returns-then-not-is_writable-clause-locked : goal.returns-then-not-is_writable-clause-locked
+returns-then-not-is_writable-clause-locked g c = λ no. refl
+
+pub returns-then-not-is_writable-clause-changes : goal.returns-then-not-is_writable-clause-changes
+returns-then-not-is_writable-clause-changes g c = nothing_changed (seen g.W.World c.args.world.now) c.args.self.now ReadOnly read_only_none
+
+pub draft_more_at-requires-clause-stamp : goal.draft_more_at-requires-clause-stamp
+draft_more_at-requires-clause-stamp g c = c.requires.stamp
+
+pub draft_more_at-requires-clause-there : goal.draft_more_at-requires-clause-there
+draft_more_at-requires-clause-there g c = c.requires.there
+
+pub draft_more_at-requires-clause-blocks : goal.draft_more_at-requires-clause-blocks
+draft_more_at-requires-clause-blocks g c = c.requires.blocks
+
+pub returns-in_err-shape-clause-locked : goal.returns-in_err-shape-clause-locked
+returns-in_err-shape-clause-locked g c = λ no. absurd (true≢false (sym (sym c.is_writable.ensures ∙ c.if-not-is_writable.false) ∙ no))
+
+pub returns-in_err-draft-clause-locked : goal.returns-in_err-draft-clause-locked
+returns-in_err-draft-clause-locked g c = λ no. absurd (true≢false (sym (sym c.is_writable.ensures ∙ c.if-not-is_writable.false) ∙ no))
+
+pub returns-in-Ok-clause-locked : goal.returns-in-Ok-clause-locked
+returns-in-Ok-clause-locked g c = λ no. absurd (true≢false (sym (sym c.is_writable.ensures ∙ c.if-not-is_writable.false) ∙ no))
+
+pub returns-in-Err-clause-locked : goal.returns-in-Err-clause-locked
+returns-in-Err-clause-locked g c = λ no. absurd (true≢false (sym (sym c.is_writable.ensures ∙ c.if-not-is_writable.false) ∙ no))
+
+pub put_records-requires-clause-file : goal.put_records-requires-clause-file
+put_records-requires-clause-file g c = c.requires.more
+
+pub commit-requires-clause-full : goal.commit-requires-clause-full
+commit-requires-clause-full g c = c.in-Ok.ensures.full
+
+pub commit-requires-clause-room : goal.commit-requires-clause-room
+commit-requires-clause-room g c = c.in_ok-draft.ensures.spare

@@ -3,6 +3,8 @@ use Rattle.std.proofs.lemmas.Bool.{true≢false}
 use Rattle.std.proofs.lemmas.Result.{IfErr-weaker}
 use Rattle.cms_disk.proofs.ReadSteps.{other_fault}
 use Rattle.cms_disk.specs.declared.fault.DiskFault.TheVariants.{ReadOnly}
+use Rattle.cms_world.specs.Seen.{seen}
+use Rattle.cms_disk.proofs.Refused.{nothing_changed, read_only_none}
 use Rattle.cms_disk.proofs.minidisk.Minidisk.century.Goals as goal
 
 pub change-requires-clause-stamp : goal.change-requires-clause-stamp
@@ -43,3 +45,6 @@ returns-then-not-is_writable-clause-fault g c = inl refl
 
 pub returns-then-not-is_writable-clause-holds : goal.returns-then-not-is_writable-clause-holds
 returns-then-not-is_writable-clause-holds g c = tt
+
+pub returns-then-not-is_writable-clause-changes : goal.returns-then-not-is_writable-clause-changes
+returns-then-not-is_writable-clause-changes g c = nothing_changed (seen g.W.World c.args.world.now) c.args.self.now ReadOnly read_only_none

@@ -1,12 +1,16 @@
-use Rattle.std.proofs.Common.{◌≡◌, ap, subst, sym}
+use Rattle.std.proofs.Common.{◌≡◌, ap, subst, sym, ◌≤◌, ◌∙◌, true, false, refl}
 use Rattle.std.proofs.lemmas.Result.{err_from_is_err_and}
+use Rattle.std.proofs.lemmas.Bool.{true≢false}
 use Rattle.cms_held.specs.HeldVolumes.{HeldVolume}
 use Rattle.cms_edf.specs.declared.draft.Draft.{Draft}
-use Rattle.cms_disk.specs.Disks.{Accessed, place_of}
+use Rattle.cms_disk.specs.Disks.{Accessed, place_of, IsVolumeOf}
 use Rattle.cms_disk.proofs.DraftAnswered.{draft_fault, draft_made, draft_refused}
 use Rattle.cms_disk.proofs.DraftSteps.{begins_put}
 use Rattle.cms_disk.proofs.FilePut.{not_both}
 use Rattle.cms_edf.proofs.Exits.{ok_at_err}
+use Rattle.cms_edf.specs.FileDrafts.{IsSomeDraft, tree_of}
+use Rattle.cms_held.specs.FileWriters.{IsFresh}
+use Rattle.cms_disk.proofs.Refused.{same_places}
 use Rattle.cms_disk.proofs.minidisk.Minidisk.draft_at.Goals as goal
 
 pub plan_draft_at-requires-clause-place : goal.plan_draft_at-requires-clause-place
@@ -81,3 +85,77 @@ returns-then-not-is_writable-clause-writable c = tt
 
 pub returns-then-not-is_writable-clause-spare : goal.returns-then-not-is_writable-clause-spare
 returns-then-not-is_writable-clause-spare c = tt
+
+pub returns-then-not-is_writable-clause-answers : goal.returns-then-not-is_writable-clause-answers
+returns-then-not-is_writable-clause-answers c = λ j m records is has counts. tt
+
+pub returns-then-not-is_writable-clause-fault : goal.returns-then-not-is_writable-clause-fault
+returns-then-not-is_writable-clause-fault c = sym c.is_writable.ensures ∙ c.if-not-is_writable.true
+
+pub returns-then-not-is_writable-clause-locked : goal.returns-then-not-is_writable-clause-locked
+returns-then-not-is_writable-clause-locked c = λ no. refl
+
+pub returns-then-not-is_writable-clause-limited : goal.returns-then-not-is_writable-clause-limited
+returns-then-not-is_writable-clause-limited c = λ writable which limit. absurd (true≢false (sym writable ∙ (sym c.is_writable.ensures ∙ c.if-not-is_writable.true)))
+
+pub returns-then-not-is_writable-clause-kept : goal.returns-then-not-is_writable-clause-kept
+returns-then-not-is_writable-clause-kept c = refl
+
+pub returns-then-not-is_writable-clause-places : goal.returns-then-not-is_writable-clause-places
+returns-then-not-is_writable-clause-places c = same_places c.args.self.now.spare
+
+pub plan_draft_at-requires-clause-stamp : goal.plan_draft_at-requires-clause-stamp
+plan_draft_at-requires-clause-stamp c = c.requires.stamp
+
+pub plan_draft_at-requires-clause-asked : goal.plan_draft_at-requires-clause-asked
+plan_draft_at-requires-clause-asked c = c.requires.shape
+
+pub invariant_of-self : goal.invariant_of-self
+invariant_of-self c = subst (IsVolumeOf c.self.inside.unit) (sym c.in_err-draft.ensures.volume) c.self.invariant
+
+pub invariant_of-self-2 : goal.invariant_of-self-2
+invariant_of-self-2 c = subst (IsVolumeOf c.self.inside.unit) (sym c.in_ok-draft.ensures.volume) c.self.invariant
+
+pub returns-in_err-draft-clause-locked : goal.returns-in_err-draft-clause-locked
+returns-in_err-draft-clause-locked c = λ no. absurd (true≢false (sym (sym c.is_writable.ensures ∙ c.if-not-is_writable.false) ∙ no))
+
+pub returns-clause-locked : goal.returns-clause-locked
+returns-clause-locked c = λ no. absurd (true≢false (sym (sym c.is_writable.ensures ∙ c.if-not-is_writable.false) ∙ no))
+
+pub returns-in_err-draft-clause-kept : goal.returns-in_err-draft-clause-kept
+returns-in_err-draft-clause-kept c =
+    let s = c.self.inside in
+    ap (λ (v : HeldVolume). record { vdev = s.unit.vdev; writable = s.unit.writable; volume = v; spare = c.plan_draft_at.new.held.spare }) c.in_err-draft.ensures.volume
+    ∙ ap (λ (a : Accessed). record a { spare = c.plan_draft_at.new.held.spare }) c.self.view_is
+
+pub returns-clause-kept : goal.returns-clause-kept
+returns-clause-kept c =
+    let s = c.self.inside in
+    ap (λ (v : HeldVolume). record { vdev = s.unit.vdev; writable = s.unit.writable; volume = v; spare = c.plan_draft_at.new.held.spare }) c.in_ok-draft.ensures.volume
+    ∙ ap (λ (a : Accessed). record a { spare = c.plan_draft_at.new.held.spare }) c.self.view_is
+
+pub returns-in_err-draft-clause-spare : goal.returns-in_err-draft-clause-spare
+returns-in_err-draft-clause-spare c = ok_at_err _ c.from_residual.result _ c.from_residual.ensures.1
+
+pub returns-in_err-draft-clause-places : goal.returns-in_err-draft-clause-places
+returns-in_err-draft-clause-places c = subst (λ (a : Accessed). a.spare ≤ c.plan_draft_at.new.held.spare) c.self.view_is c.in_err-draft.ensures.places
+
+pub returns-clause-some : goal.returns-clause-some
+returns-clause-some c =
+    subst (λ (a : Accessed). IsSomeDraft a.volume c.in_ok-draft.draft) c.self.view_is (subst (λ (v : HeldVolume). IsSomeDraft v c.in_ok-draft.draft) c.in_ok-draft.ensures.volume c.in_ok-draft.ensures.some)
+
+pub returns-clause-fresh : goal.returns-clause-fresh
+returns-clause-fresh c =
+    subst (λ (a : Accessed). IsFresh a.volume.unit a.volume.disk.bsize c.args.shape.now (tree_of c.in_ok-draft.draft) c.in_ok-draft.draft.writer) c.self.view_is c.in_ok-draft.ensures.fresh
+
+pub returns-clause-writable : goal.returns-clause-writable
+returns-clause-writable c = sym c.is_writable.ensures ∙ c.if-not-is_writable.false
+
+pub returns-clause-fault : goal.returns-clause-fault
+returns-clause-fault c = tt
+
+pub returns-clause-spare : goal.returns-clause-spare
+returns-clause-spare c = c.in_ok-draft.ensures.spare
+
+pub returns-clause-places : goal.returns-clause-places
+returns-clause-places c = subst (λ (a : Accessed). a.spare ≤ c.plan_draft_at.new.held.spare) c.self.view_is c.in_ok-draft.ensures.places

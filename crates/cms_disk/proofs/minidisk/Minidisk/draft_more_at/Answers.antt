@@ -1,15 +1,18 @@
-use Rattle.std.proofs.Common.{◌≡◌, ◌∙◌, ℕ, length, Option, Some, refl, sym, ap, subst}
+use Rattle.std.proofs.Common.{◌≡◌, ◌∙◌, ℕ, length, Option, Some, refl, sym, ap, subst, ◌≤◌, true, false}
 use Rattle.std.specs.Prelude.{IsSome}
 use Rattle.std.proofs.lemmas.Result.{err_from_is_err_and}
+use Rattle.std.proofs.lemmas.Bool.{true≢false}
 use Rattle.cms_journal.specs.Journal.{HasBlocks}
 use Rattle.cms_held.specs.HeldVolumes.{HeldVolume}
 use Rattle.cms_held.specs.Puts.{limit_put}
 use Rattle.cms_edf.specs.declared.draft.Draft.{Draft}
 use Rattle.cms_disk.specs.Additions.{MayExtend}
-use Rattle.cms_disk.specs.Disks.{Accessed, place_of}
+use Rattle.cms_disk.specs.Disks.{Accessed, place_of, IsVolumeOf}
 use Rattle.cms_disk.proofs.AddAnswered.{more_fault, planned_so, refused_so, room_for}
 use Rattle.cms_disk.proofs.MoreDrafts.{begins_more, behind_file, can_grow, file_there, told_of}
 use Rattle.cms_edf.proofs.Exits.{ok_at_err}
+use Rattle.cms_edf.specs.FileDrafts.{IsSomeDraft}
+use Rattle.cms_disk.proofs.Refused.{same_places}
 use Rattle.cms_disk.proofs.minidisk.Minidisk.draft_more_at.Goals as goal
 
 -- it is there
@@ -134,3 +137,70 @@ returns-then-not-is_writable-clause-writable g c = tt
 
 pub returns-then-not-is_writable-clause-spare : goal.returns-then-not-is_writable-clause-spare
 returns-then-not-is_writable-clause-spare g c = tt
+
+pub returns-then-not-is_writable-clause-fault : goal.returns-then-not-is_writable-clause-fault
+returns-then-not-is_writable-clause-fault g c = sym c.is_writable.ensures ∙ c.if-not-is_writable.true
+
+pub returns-then-not-is_writable-clause-locked : goal.returns-then-not-is_writable-clause-locked
+returns-then-not-is_writable-clause-locked g c = λ no. refl
+
+pub returns-then-not-is_writable-clause-limited : goal.returns-then-not-is_writable-clause-limited
+returns-then-not-is_writable-clause-limited g c = λ writable which limit. absurd (true≢false (sym writable ∙ (sym c.is_writable.ensures ∙ c.if-not-is_writable.true)))
+
+pub returns-then-not-is_writable-clause-kept : goal.returns-then-not-is_writable-clause-kept
+returns-then-not-is_writable-clause-kept g c = refl
+
+pub returns-then-not-is_writable-clause-places : goal.returns-then-not-is_writable-clause-places
+returns-then-not-is_writable-clause-places g c = same_places c.args.self.now.spare
+
+pub plan_more_at-requires-clause-stamp : goal.plan_more_at-requires-clause-stamp
+plan_more_at-requires-clause-stamp g c = c.requires.stamp
+
+pub invariant_of-self : goal.invariant_of-self
+invariant_of-self g c = subst (IsVolumeOf c.self.inside.unit) (sym c.in_err-draft.ensures.volume) c.self.invariant
+
+pub invariant_of-self-2 : goal.invariant_of-self-2
+invariant_of-self-2 g c = subst (IsVolumeOf c.self.inside.unit) (sym c.in_ok-draft.ensures.volume) c.self.invariant
+
+pub returns-in_err-draft-clause-locked : goal.returns-in_err-draft-clause-locked
+returns-in_err-draft-clause-locked g c = λ no. absurd (true≢false (sym (sym c.is_writable.ensures ∙ c.if-not-is_writable.false) ∙ no))
+
+pub returns-clause-locked : goal.returns-clause-locked
+returns-clause-locked g c = λ no. absurd (true≢false (sym (sym c.is_writable.ensures ∙ c.if-not-is_writable.false) ∙ no))
+
+pub returns-in_err-draft-clause-kept : goal.returns-in_err-draft-clause-kept
+returns-in_err-draft-clause-kept g c =
+    let s = c.self.inside in
+    ap (λ (v : HeldVolume). record { vdev = s.unit.vdev; writable = s.unit.writable; volume = v; spare = c.plan_more_at.new.held.spare }) c.in_err-draft.ensures.volume
+    ∙ ap (λ (a : Accessed). record a { spare = c.plan_more_at.new.held.spare }) c.self.view_is
+
+pub returns-clause-kept : goal.returns-clause-kept
+returns-clause-kept g c =
+    let s = c.self.inside in
+    ap (λ (v : HeldVolume). record { vdev = s.unit.vdev; writable = s.unit.writable; volume = v; spare = c.plan_more_at.new.held.spare }) c.in_ok-draft.ensures.volume
+    ∙ ap (λ (a : Accessed). record a { spare = c.plan_more_at.new.held.spare }) c.self.view_is
+
+pub returns-in_err-draft-clause-spare : goal.returns-in_err-draft-clause-spare
+returns-in_err-draft-clause-spare g c = ok_at_err _ c.from_residual.result _ c.from_residual.ensures.1
+
+pub returns-in_err-draft-clause-places : goal.returns-in_err-draft-clause-places
+returns-in_err-draft-clause-places g c = subst (λ (a : Accessed). a.spare ≤ c.plan_more_at.new.held.spare) c.self.view_is c.in_err-draft.ensures.places
+
+pub returns-clause-some : goal.returns-clause-some
+returns-clause-some g c =
+    subst (λ (a : Accessed). IsSomeDraft a.volume c.in_ok-draft.draft) c.self.view_is (subst (λ (v : HeldVolume). IsSomeDraft v c.in_ok-draft.draft) c.in_ok-draft.ensures.volume c.in_ok-draft.ensures.some)
+
+pub returns-clause-writable : goal.returns-clause-writable
+returns-clause-writable g c = sym c.is_writable.ensures ∙ c.if-not-is_writable.false
+
+pub returns-clause-fault : goal.returns-clause-fault
+returns-clause-fault g c = tt
+
+pub returns-clause-spare : goal.returns-clause-spare
+returns-clause-spare g c = c.in_ok-draft.ensures.spare
+
+pub returns-clause-places : goal.returns-clause-places
+returns-clause-places g c = subst (λ (a : Accessed). a.spare ≤ c.plan_more_at.new.held.spare) c.self.view_is c.in_ok-draft.ensures.places
+
+pub returns-clause-reads : goal.returns-clause-reads
+returns-clause-reads g c = record { told = c.in_ok-draft.ensures.reads.told; faults = c.in_ok-draft.ensures.reads.faults; edges = c.in_ok-draft.ensures.reads.edges; cause = tt }

@@ -4,6 +4,8 @@ use Rattle.std.proofs.lemmas.Result.{IfErr-weaker}
 use Rattle.cms_disk.proofs.ChangeSteps.{is_missing}
 use Rattle.cms_disk.proofs.ReadSteps.{other_fault, not_found_read_only, read_only_not_found}
 use Rattle.cms_disk.specs.declared.fault.DiskFault.TheVariants.{NotFound, ReadOnly}
+use Rattle.cms_world.specs.Seen.{seen}
+use Rattle.cms_disk.proofs.Refused.{none_named, some_named, not_found_none, nothing_changed, read_only_none}
 use Rattle.cms_disk.proofs.minidisk.Minidisk.erase.Goals as goal
 
 pub returns-then-not-has-clause-alters : goal.returns-then-not-has-clause-alters
@@ -68,3 +70,24 @@ returns-then-not-has-clause-holds g c = tt
 
 pub returns-then-not-is_writable-clause-holds : goal.returns-then-not-is_writable-clause-holds
 returns-then-not-is_writable-clause-holds g c = tt
+
+pub returns-then-not-has-clause-changes : goal.returns-then-not-has-clause-changes
+returns-then-not-has-clause-changes g c = nothing_changed (seen g.W.World c.args.world.now) c.args.self.now NotFound not_found_none
+
+pub returns-then-not-is_writable-clause-changes : goal.returns-then-not-is_writable-clause-changes
+returns-then-not-is_writable-clause-changes g c = nothing_changed (seen g.W.World c.args.world.now) c.args.self.now ReadOnly read_only_none
+
+pub returns-then-not-has-clause-missing : goal.returns-then-not-has-clause-missing
+returns-then-not-has-clause-missing g c = λ is. none_named c.has.result _ c.has.ensures c.if-not-has.true
+
+pub returns-then-not-is_writable-clause-absent : goal.returns-then-not-is_writable-clause-absent
+returns-then-not-is_writable-clause-absent g c = λ none. absurd (some_named c.has.result _ c.has.ensures c.if-not-has.false none)
+
+pub returns-clause-absent : goal.returns-clause-absent
+returns-clause-absent g c = λ none. absurd (some_named c.has.result _ c.has.ensures c.if-not-has.false none)
+
+pub returns-then-not-is_writable-clause-alters : goal.returns-then-not-is_writable-clause-alters
+returns-then-not-is_writable-clause-alters g c = λ j m told is. (refl, sym c.is_writable.ensures ∙ c.if-not-is_writable.true)
+
+pub change-requires-clause-change : goal.change-requires-clause-change
+change-requires-clause-change g c = c.has.ensures.0 c.if-not-has.false

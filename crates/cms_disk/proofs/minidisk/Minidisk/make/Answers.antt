@@ -1,5 +1,5 @@
 -- The exits of a making: the wiping failed, the making failed, and all was done.
-use Rattle.std.proofs.Common.{◌≡◌, Some, Err, ap, ◌∙◌, arith}
+use Rattle.std.proofs.Common.{◌≡◌, Some, Err, ap, ◌∙◌, arith, refl}
 use Rattle.std.proofs.lemmas.Result.{err_from_is_err_and}
 use Rattle.cms_journal.specs.Journal.{Journal}
 use Rattle.cms_model.specs.Minidisks.{State}
@@ -12,7 +12,10 @@ use Rattle.cms_disk.specs.Changes.{fault_of}
 use Rattle.cms_disk.specs.EmptyMinidisks.{Formats, IsReady}
 use Rattle.cms_disk.proofs.MakeSteps.{IsPlanned, failed_grown, failed_quiet, grown_cut_wipe, made, made_grown, made_quiet, make_failed, make_fault, not_memory, wipe_doubted}
 use Rattle.cms_disk.proofs.StepPieces.{grown_some}
-use Rattle.cms_edf.proofs.Exits.{ok_at_err}
+use Rattle.cms_edf.proofs.Exits.{ok_at_err, err_at_err}
+use Rattle.cms_world.specs.Seen.{seen}
+use Rattle.cms_disk.specs.declared.fault.DiskFault.TheVariants.{Memory}
+use Rattle.cms_disk.proofs.MakeExits.{changes_nothing, fault_memory, formats_nothing, grown_nothing, made_on, made_without_files, make_blocks, make_writable, quiet_nothing, volume_on}
 use Rattle.cms_disk.proofs.minidisk.Minidisk.make.Given as given
 use Rattle.cms_disk.proofs.minidisk.Minidisk.make.Goals as goal
 use Rattle.cms_disk.proofs.minidisk.Minidisk.make.Goals.{After-make}
@@ -165,3 +168,57 @@ returns-in-Err-clause-unit g c = tt
 
 pub returns-in-Err-clause-empty : goal.returns-in-Err-clause-empty
 returns-in-Err-clause-empty g c = tt
+
+pub plan_make-requires-clause-blocks : goal.plan_make-requires-clause-blocks
+plan_make-requires-clause-blocks g c = c.requires.least
+
+pub plan_make-requires-clause-stamp : goal.plan_make-requires-clause-stamp
+plan_make-requires-clause-stamp g c = c.requires.stamp
+
+pub returns-in_err-plan-clause-formats : goal.returns-in_err-plan-clause-formats
+returns-in_err-plan-clause-formats g c = λ j before is ready. formats_nothing c.args.unit.now c.from_residual.result c.from_residual.ensures.1 (g.W.World.told c.args.world.now) before c.args.volid c.args.stamp.now
+
+pub returns-in_err-plan-clause-quiet : goal.returns-in_err-plan-clause-quiet
+returns-in_err-plan-clause-quiet g c = λ j before is ready. quiet_nothing c.args.unit.now c.from_residual.result c.from_residual.ensures.1 j (g.W.World.told c.args.world.now) before is ready
+
+pub returns-in_err-plan-clause-fault : goal.returns-in_err-plan-clause-fault
+returns-in_err-plan-clause-fault g c = fault_memory c.args.unit.now c.from_residual.result c.from_residual.ensures.1
+
+pub returns-in_err-plan-clause-nothing : goal.returns-in_err-plan-clause-nothing
+returns-in_err-plan-clause-nothing g c = err_at_err (λ e. e ≡ Memory) c.from_residual.result _ c.from_residual.ensures.1 (λ e is memory. refl)
+
+pub returns-in_err-plan-clause-of_unit : goal.returns-in_err-plan-clause-of_unit
+returns-in_err-plan-clause-of_unit g c = grown_nothing c.args.unit.now.unit.number (g.W.World.told c.args.world.now)
+
+pub returns-in_err-plan-clause-changes : goal.returns-in_err-plan-clause-changes
+returns-in_err-plan-clause-changes g c = changes_nothing c.args.unit.now c.from_residual.result c.from_residual.ensures.1 (seen g.W.World c.args.world.now)
+
+pub wipe-requires-clause-writable : goal.wipe-requires-clause-writable
+wipe-requires-clause-writable g c = c.requires.writable
+
+pub from-requires : goal.from-requires
+from-requires g c = tt
+
+pub make-requires-clause-blocks : goal.make-requires-clause-blocks
+make-requires-clause-blocks g c =
+    let unit = c.args.unit.now in
+    make_blocks unit.unit.number unit.unit.blocks unit.bsize c.in_ok-plan.plan.unit (g.W.World.told c.args.world.now) (g.W.World.told c.wipe.new.world) c.in_ok-plan.ensures.unit c.in-Ok.ensures.done
+    c.in_ok-plan.plan.disk c.in_ok-plan.ensures.disk c.requires.blocks
+
+pub make-requires-clause-writable : goal.make-requires-clause-writable
+make-requires-clause-writable g c =
+    let unit = c.args.unit.now in
+    make_writable unit.unit.number unit.unit.blocks unit.bsize c.in_ok-plan.plan.unit (g.W.World.told c.args.world.now) (g.W.World.told c.wipe.new.world) c.in_ok-plan.ensures.unit c.in-Ok.ensures.done
+    c.requires.writable
+
+pub invariant_of-result : goal.invariant_of-result
+invariant_of-result g c = volume_on c.args.unit.now c.in_ok-plan.plan c.in_ok-held.held.volume c.in_ok-held.ensures.held c.in_ok-plan.ensures.unit c.in_ok-plan.ensures.disk
+
+pub returns-clause-unit : goal.returns-clause-unit
+returns-clause-unit g c =
+    made_on c.args.unit.now c.in_ok-plan.plan c.in_ok-held.held.volume c.in_ok-held.ensures.held c.in_ok-plan.ensures.unit c.in_ok-plan.ensures.disk c.in_ok-held.held.spare
+
+pub returns-clause-empty : goal.returns-clause-empty
+returns-clause-empty g c =
+    made_without_files c.args.unit.now c.in_ok-plan.plan c.in_ok-held.held.volume c.in_ok-held.ensures.held c.in_ok-plan.ensures.unit c.in_ok-plan.ensures.disk c.in_ok-held.held.spare c.args.volid c.args.stamp.now
+    c.in_ok-plan.ensures.empty

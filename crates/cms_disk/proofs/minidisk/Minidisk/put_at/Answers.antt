@@ -1,6 +1,7 @@
-use Rattle.std.proofs.Common.{◌≡◌, Result, Err, Some, false, List, [], refl, sym, ◌∙◌, ap, subst}
+use Rattle.std.proofs.Common.{◌≡◌, Result, Err, Some, false, List, [], refl, sym, ◌∙◌, ap, subst, inl}
 use Rattle.std.specs.Prelude.{IfErr, ⊤}
 use Rattle.std.proofs.lemmas.Result.{err_from_is_err_and}
+use Rattle.std.proofs.lemmas.Bool.{true≢false}
 use Rattle.cms_journal.specs.Journal.{HasBlocks, IsWritable}
 use Rattle.cms_world.specs.Seen.{seen}
 use Rattle.cms_journal.specs.declared.event.Attached.{Attached}
@@ -22,7 +23,8 @@ use Rattle.cms_disk.specs.declared.fault.DiskFault.{DiskFault}
 use Rattle.cms_disk.specs.declared.fault.DiskFault.TheVariants.{Limit, ReadOnly}
 use Rattle.cms_disk.proofs.FilePut.{alters_same, are_last, changed_behind, device_is_fault, draft_is_fault, file_none, given_up, has_counts, has_shape, long_so, not_made, not_read_only, on_ok, put_in, refused_so}
 use Rattle.cms_disk.proofs.RecordsPut.{same_draft, same_some}
-use Rattle.cms_edf.proofs.Exits.{ok_at_err}
+use Rattle.cms_edf.proofs.Exits.{ok_at_err, same_at_err}
+use Rattle.cms_disk.proofs.Refused.{changed_places, draft_none, no_unit_changed, passed_on}
 use Rattle.cms_disk.proofs.minidisk.Minidisk.put_at.Goals as goal
 
 pub returns-in_err-draft-clause-alters : goal.returns-in_err-draft-clause-alters
@@ -166,3 +168,59 @@ returns-in_err-draft-clause-holds g c = ok_at_err _ c.from_residual.result _ c.f
 
 pub returns-in-Err-clause-holds : goal.returns-in-Err-clause-holds
 returns-in-Err-clause-holds g c = tt
+
+pub draft_at-requires-clause-stamp : goal.draft_at-requires-clause-stamp
+draft_at-requires-clause-stamp g c = c.requires.stamp
+
+pub draft_at-requires-clause-shape : goal.draft_at-requires-clause-shape
+draft_at-requires-clause-shape g c = c.shape_of-shape.ensures.can
+
+pub draft_at-requires-clause-there : goal.draft_at-requires-clause-there
+draft_at-requires-clause-there g c = c.requires.there
+
+pub returns-in_err-draft-clause-read_only : goal.returns-in_err-draft-clause-read_only
+returns-in_err-draft-clause-read_only g c =
+    same_at_err c.from_residual.result (λ (e : DiskFault). e ≡ ReadOnly → c.args.self.now.writable ≡ false) _ c.from_residual.ensures.1
+    (λ is. subst (IsDraftFault c.args.self.now c.args.name.now c.shape_of-shape.result) is c.in_err-draft.ensures.fault)
+
+pub returns-in_err-draft-clause-locked : goal.returns-in_err-draft-clause-locked
+returns-in_err-draft-clause-locked g c = λ no. passed_on c.from_residual.result c.in_err-draft.field-0.0 ReadOnly c.from_residual.ensures.1 (c.in_err-draft.ensures.locked no)
+
+pub returns-in_err-draft-clause-limited : goal.returns-in_err-draft-clause-limited
+returns-in_err-draft-clause-limited g c = λ writable which limit.
+    passed_on c.from_residual.result c.in_err-draft.field-0.0 (Limit which) c.from_residual.ensures.1
+    (c.in_err-draft.ensures.limited writable which
+    (subst (λ (s : DraftShape). limit_put (count_put c.args.self.now.volume c.args.name.now) s.count s.bytes ≡ Some which) (sym c.shape_of-shape.ensures.shape) limit))
+
+pub returns-in_err-draft-clause-changes : goal.returns-in_err-draft-clause-changes
+returns-in_err-draft-clause-changes g c =
+    let why = c.in_err-draft.field-0.0 in
+    let r = c.from_residual.result in
+    changed_places (seen g.W.World c.args.world.now) (seen g.W.World c.args.world.now) c.args.self.now c.draft_at.new.self r
+    (no_unit_changed (seen g.W.World c.args.world.now) r why c.from_residual.ensures.1 (draft_none c.args.self.now c.args.name.now c.shape_of-shape.result why c.in_err-draft.ensures.fault))
+    c.in_err-draft.ensures.kept
+
+pub put_records-requires-clause-file : goal.put_records-requires-clause-file
+put_records-requires-clause-file g c = c.requires.file
+
+pub commit-requires-clause-full : goal.commit-requires-clause-full
+commit-requires-clause-full g c = c.in-Ok.ensures.full
+
+pub commit-requires-clause-room : goal.commit-requires-clause-room
+commit-requires-clause-room g c = c.in_ok-draft.ensures.spare
+
+pub returns-in-Ok-clause-locked : goal.returns-in-Ok-clause-locked
+returns-in-Ok-clause-locked g c = λ no. absurd (true≢false (sym c.in_ok-draft.ensures.writable ∙ no))
+
+pub returns-in-Err-clause-locked : goal.returns-in-Err-clause-locked
+returns-in-Err-clause-locked g c = λ no. absurd (true≢false (sym c.in_ok-draft.ensures.writable ∙ no))
+
+pub returns-in-Err-clause-fault : goal.returns-in-Err-clause-fault
+returns-in-Err-clause-fault g c = device_is_fault c.args.self.now c.args.name.now (shape_of c.args.file.now) c.in-Err.fault (inl c.in-Err.ensures.fault)
+
+pub returns-in-Err-clause-read_only : goal.returns-in-Err-clause-read_only
+returns-in-Err-clause-read_only g c = λ is. absurd (not_read_only c.in-Err.fault (inl c.in-Err.ensures.fault) is)
+
+pub returns-in-Err-clause-changes : goal.returns-in-Err-clause-changes
+returns-in-Err-clause-changes g c =
+    changed_places (seen g.W.World c.args.world.now) (seen g.W.World c.put_records.new.world) c.args.self.now c.draft_at.new.self (Err c.in-Err.fault) c.in-Err.ensures.changes c.in_ok-draft.ensures.kept

@@ -1,10 +1,13 @@
-use Rattle.std.proofs.Common.{refl, rules, inl, inr, sym, ◌∙◌}
+use Rattle.std.proofs.Common.{refl, rules, inl, inr, sym, ◌∙◌, true, false}
 use Rattle.std.proofs.lemmas.Bool.{true≢false}
 use Rattle.std.proofs.lemmas.Result.{IfErr-weaker}
 use Rattle.cms_disk.proofs.ChangeSteps.{is_missing, is_there}
 use Rattle.cms_disk.proofs.ReadSteps.{other_fault, exists_read_only, not_found_read_only, read_only_not_found, read_only_exists, not_found_exists, exists_not_found}
 use Rattle.cms_disk.specs.declared.fault.DiskFault.TheVariants.{Exists, NotFound, ReadOnly}
+use Rattle.cms_world.specs.Seen.{seen}
+use Rattle.cms_disk.proofs.Refused.{exists_none, none_named, not_found_none, not_there, nothing_changed, read_only_none, some_named}
 use Rattle.cms_disk.proofs.minidisk.Minidisk.rename.Goals as goal
+use Rattle.cms_disk.proofs.minidisk.Minidisk.rename.Goals.{else-ne-via-then-ne+else-has, else-ne-via-else-ne}
 
 pub returns-then-not-has-clause-alters : goal.returns-then-not-has-clause-alters
 returns-then-not-has-clause-alters g c = λ j m told is. (refl, is_missing j c.args.self.now m c.args.from.now c.has.result c.has.ensures c.if-not-has.true is)
@@ -101,3 +104,39 @@ returns-then-has-clause-holds g c = tt
 
 pub returns-then-not-is_writable-clause-holds : goal.returns-then-not-is_writable-clause-holds
 returns-then-not-is_writable-clause-holds g c = tt
+
+pub returns-then-not-has-clause-missing : goal.returns-then-not-has-clause-missing
+returns-then-not-has-clause-missing g c = λ is. none_named c.has.result _ c.has.ensures c.if-not-has.true
+
+pub returns-then-not-has-clause-changes : goal.returns-then-not-has-clause-changes
+returns-then-not-has-clause-changes g c = nothing_changed (seen g.W.World c.args.world.now) c.args.self.now NotFound not_found_none
+
+pub returns-then-has-clause-absent : goal.returns-then-has-clause-absent
+returns-then-has-clause-absent g c = λ none. absurd (some_named c.has.result _ c.has.ensures c.if-not-has.false none)
+
+pub returns-then-has-clause-changes : goal.returns-then-has-clause-changes
+returns-then-has-clause-changes g c = nothing_changed (seen g.W.World c.args.world.now) c.args.self.now Exists exists_none
+
+pub returns-then-not-is_writable-clause-alters : goal.returns-then-not-is_writable-clause-alters
+returns-then-not-is_writable-clause-alters g c = λ j m told is. (refl, sym c.is_writable.ensures ∙ c.if-not-is_writable.true)
+
+pub returns-then-not-is_writable-clause-absent : goal.returns-then-not-is_writable-clause-absent
+returns-then-not-is_writable-clause-absent g c = λ none. absurd (some_named c.has.result _ c.has.ensures c.if-not-has.false none)
+
+pub returns-then-not-is_writable-clause-taken : goal.returns-then-not-is_writable-clause-taken
+returns-then-not-is_writable-clause-taken g c = λ others. absurd (elim c.else-ne.branch [
+  | else-ne-via-then-ne+else-has w ↦ not_there _ (none_named w.has-then-ne.result _ w.has-then-ne.ensures w.if-has.false) others.1
+  | else-ne-via-else-ne w ↦ others.0 (search rules)
+])
+
+pub returns-clause-taken : goal.returns-clause-taken
+returns-clause-taken g c = λ others. absurd (elim c.else-ne.branch [
+  | else-ne-via-then-ne+else-has w ↦ not_there _ (none_named w.has-then-ne.result _ w.has-then-ne.ensures w.if-has.false) others.1
+  | else-ne-via-else-ne w ↦ others.0 (search rules)
+])
+
+pub returns-then-not-is_writable-clause-changes : goal.returns-then-not-is_writable-clause-changes
+returns-then-not-is_writable-clause-changes g c = nothing_changed (seen g.W.World c.args.world.now) c.args.self.now ReadOnly read_only_none
+
+pub returns-clause-absent : goal.returns-clause-absent
+returns-clause-absent g c = λ none. absurd (some_named c.has.result _ c.has.ensures c.if-not-has.false none)
