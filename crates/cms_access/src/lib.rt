@@ -10,8 +10,8 @@ mod questions;
 mod release;
 mod shown;
 
-pub use access::{AccessLine, access_line, run_access};
-pub use century::{CenturyLine, century_line, run_century};
-pub use format::{FormatLine, Formatting, format_line, run_format};
-pub use query::{Question, query_line, run_query};
-pub use release::{release_line, run_release};
+pub use access::run_access;
+pub use century::run_century;
+pub use format::run_format;
+pub use query::run_query;
+pub use release::run_release;

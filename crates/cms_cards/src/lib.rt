@@ -21,6 +21,5 @@ pub use command::{CardCommand, run};
 pub use deck::{CARD, Card, Deck};
 pub use dump::write_deck;
 pub use laws::dump_laws;
-pub use line::{DiskLine, DiskVerb, PunchLine, ReadTarget, disk_line, punch_line, read_line};
 pub use load::read_deck;
 pub use reader::Reader;

@@ -10,4 +10,4 @@ mod start;
 pub use call::{run_called, run_exec};
 pub use laws::start_laws;
 pub use search::{FoundProcedure, find_called};
-pub use start::{MOST_RUNNING, Started};
+pub use start::Started;

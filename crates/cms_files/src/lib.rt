@@ -18,14 +18,14 @@ mod write;
 pub use each::{FileUpdate, update_each, update_taken};
 pub use gathered::Gathered;
 pub use identifier::{
-    FileInput, NameChoice, exec_kind, file_input, full_name, name_choice, output_name, takes_number,
+    FileInput, NameChoice, exec_kind, file_input, full_name, name_choice, output_name,
 };
-pub use mode_three::{consume, consume_last, consume_told, is_consumed};
+pub use mode_three::{consume, consume_last, is_consumed};
 pub use open_files::{OpenFile, open_found};
-pub use refusals::{NO_FILE, refuse_exists, refuse_unfound};
+pub use refusals::{NO_FILE, refuse_unfound};
 pub use shown::{file_text, tell_updated};
 pub use stack::{StackEnd, has_room, stack_lines};
-pub use taken::{Listed, TakenFiles, files_written, find_written};
+pub use taken::{Listed, TakenFiles, find_written};
 pub use told::{ToldFile, info_found, info_named, stored_found, told_named};
 pub use update::{Updated, stop_exists, stop_search, stopped, update_disk};
 pub use write::{end_writing, write_file, write_last};

@@ -8,6 +8,5 @@ mod line;
 mod listfile;
 mod procedure;
 
-pub use columns::{Columns, Years};
+pub use columns::Columns;
 pub use command::run_listfile;
-pub use listfile::{Delivery, ListFiles, ListLine, ListStyle, list_line};

@@ -26,10 +26,8 @@ mod texts;
 
 pub use access::AccessEnd;
 pub use asked_line::{Asked, ask, clock};
-pub use change_told::{LIMITED, refuse_full, refuse_limit, tell_change};
-pub use device_step::{
-    Changed, change_disk, end_update, refuse_altered, refuse_device, refuse_unread,
-};
+pub use change_told::{refuse_limit, tell_change};
+pub use device_step::{Changed, change_disk, end_update, refuse_device, refuse_unread};
 pub use fault::SearchFault;
 pub use file_write::{FileWrite, update_file};
 pub use output::{refuse, say, say_lines, say_message, say_ready};
