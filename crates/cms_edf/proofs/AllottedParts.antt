@@ -71,7 +71,7 @@ allotted_of v x a entries edit stamp s al f asks enough =
       directory_is = ap (λ (t : HeldTree). length t.leaves) d ∙ (al.directory_is ∙ ap (directory_count bsize) (sym (files_are v x a entries edit asks)));
       map_is = ap (λ (t : HeldTree). length t.leaves) m ∙ al.map_is;
       directory = subst (λ (t : HeldTree). KeepsTree fan s.directory_part.leaves v.directory t) (sym d)
-          (subst (λ (p : TreePart). KeepsTree fan p.leaves v.directory a.directory) (sym dp) al.directory);
+          (subst (λ (p : TreePart). KeepsTree fan p.leaves v.directory a.directory.tree) (sym dp) al.directory);
       map = subst (λ (t : HeldTree). KeepsTree fan s.map_part.leaves v.map t) (sym m) (subst (λ (p : TreePart). KeepsTree fan p.leaves v.map a.map_tree) (sym mp) al.map);
       enough = subst (λ (l : List ℕ). IsEnoughFor bsize (entries_held v.files) (entries_held edit.files) l) (sym written)
           (subst (λ (es : List Entry). IsEnoughFor bsize (entries_held v.files) es (blocks_made bsize (length entries) (numbers_made x))) (sym asks.entries_are) enough);
@@ -105,7 +105,7 @@ planned_of v x a entries edit stamp s al f asks enough room =
       written = ap (λ (p : TreePart). p.leaves) dp ∙ (al.written ∙ (ap (λ (n : ℕ). blocks_made bsize n (numbers_made x)) (sym count) ∙ ap (blocks_made bsize (length edit.files)) (sym asks.made)));
       directory_bytes = f.systems.directory_bytes ∙ ap (λ (es : List Entry). concat (map (directory_piece bsize s es stamp) s.directory_part.leaves)) (sym asks.entries_are);
       directory_nodes = subst (λ (t : HeldTree). s.directory_part.nodes ≡ nodes_fresh fan s.directory_part.leaves v.directory t) (sym f.directory_is)
-          (subst (λ (p : TreePart). p.nodes ≡ nodes_fresh fan p.leaves v.directory a.directory) (sym dp) al.directory_nodes);
+          (subst (λ (p : TreePart). p.nodes ≡ nodes_fresh fan p.leaves v.directory a.directory.tree) (sym dp) al.directory_nodes);
       map_nodes = subst (λ (t : HeldTree). s.map_part.nodes ≡ nodes_fresh fan s.map_part.leaves v.map t) (sym f.map_is)
           (subst (λ (p : TreePart). p.nodes ≡ nodes_fresh fan p.leaves v.map a.map_tree) (sym mp) al.map_nodes);
     }

@@ -24,6 +24,7 @@ use Rattle.cms_held.proofs.Allotted.{directory_small, directory_some, freed_all,
 use Rattle.cms_held.proofs.KeptTrees as kept
 use Rattle.cms_held.proofs.PiecesWritten.{take_both}
 use Rattle.cms_edf.specs.Allotments.{IsAllottedFor, MapIsShared, SharesDirectory, all_fresh, all_released, given_back, need_of, own_fresh, own_released, numbers_made}
+use Rattle.cms_edf.specs.NewDirectories.{NewDirectory}
 use Rattle.cms_edf.specs.declared.allotment.Allotment.{Allotment}
 use Rattle.cms_edf.specs.declared.allotment.Exchange.{Exchange}
 use Rattle.cms_edf.proofs.SharedTaken.{begins_so, map_few, some_written}
@@ -179,7 +180,7 @@ released_is fan count old t written size numbers left some told =
 
 directory_so : (v : HeldVolume) (files : ℕ) (blocks : List ℕ) (asked : TreePart) (t : HeldTree) (left : List ℕ) → 4 ≤ v.disk.bsize → 0 < directory_count v.disk.bsize files → In 0 asked.leaves
     → IsTold (v.disk.bsize / 4) (directory_count v.disk.bsize files) v.directory asked.leaves (length asked.leaves + length asked.nodes) ((9 - v.label.origin) ∷ blocks) left t
-    → SharesDirectory v files blocks asked t asked left
+    → SharesDirectory v files blocks asked (record { tree = t; part = asked }) left
 directory_so v files blocks asked t left wide some first told =
     let fan = v.disk.bsize / 4 in
     let count = directory_count v.disk.bsize files in
@@ -194,16 +195,19 @@ directory_so v files blocks asked t left wide some first told =
     }
 
 -- the new directory
-pub shares_so : (v : HeldVolume) (files fan count : ℕ) (old : HeldTree) (blocks numbers : List ℕ) (asked : TreePart) (t : HeldTree) (left : List ℕ) → 4 ≤ v.disk.bsize
-    → 0 < directory_count v.disk.bsize files → In 0 asked.leaves → fan ≡ v.disk.bsize / 4 → count ≡ directory_count v.disk.bsize files → old ≡ v.directory → numbers ≡ (9 - v.label.origin) ∷ blocks
-    → IsTold fan count old asked.leaves (length asked.leaves + length asked.nodes) numbers left t → SharesDirectory v files blocks asked t asked left
-shares_so v files fan count old blocks numbers asked t left wide some first fan_is count_is old_is numbers_are told =
+pub shares_so : (v : HeldVolume) (files fan count : ℕ) (old : HeldTree) (blocks numbers : List ℕ) (asked : TreePart) (d : NewDirectory) (left : List ℕ) → 4 ≤ v.disk.bsize
+    → 0 < directory_count v.disk.bsize files → In 0 asked.leaves → fan ≡ v.disk.bsize / 4 → count ≡ directory_count v.disk.bsize files → old ≡ v.directory → numbers ≡ (9 - v.label.origin) ∷ blocks → d.part ≡ asked
+    → IsTold fan count old asked.leaves (length asked.leaves + length asked.nodes) numbers left d.tree → SharesDirectory v files blocks asked d left
+shares_so v files fan count old blocks numbers asked d left wide some first fan_is count_is old_is numbers_are part told =
     let size = length asked.leaves + length asked.nodes in
-    directory_so v files blocks asked t left wide some first
+    let t = d.tree in
+    let back = sym part in
+    subst (λ (x : NewDirectory). SharesDirectory v files blocks asked x left) (λ k. record { tree = t; part = back k })
+    (directory_so v files blocks asked t left wide some first
     (subst (λ (n : ℕ). IsTold n (directory_count v.disk.bsize files) v.directory asked.leaves size ((9 - v.label.origin) ∷ blocks) left t) fan_is
     (subst (λ (n : ℕ). IsTold fan n v.directory asked.leaves size ((9 - v.label.origin) ∷ blocks) left t) count_is
     (subst (λ (o : HeldTree). IsTold fan count o asked.leaves size ((9 - v.label.origin) ∷ blocks) left t) old_is
-    (subst (λ (l : List ℕ). IsTold fan count old asked.leaves size l left t) numbers_are told))))
+    (subst (λ (l : List ℕ). IsTold fan count old asked.leaves size l left t) numbers_are told)))))
 
 map_so : (v : HeldVolume) (written blocks : List ℕ) (places : TreePart) (t : HeldTree) (left : List ℕ) → 4 ≤ v.disk.bsize → length v.map.leaves ≡ up (up v.label.blocks 8) v.disk.bsize
     → MayBeWritten (length v.map.leaves) (length v.map.leaves) written → places.leaves ≡ written → places.nodes ≡ fresh_places (v.disk.bsize / 4) (length v.map.leaves) (length v.map.leaves) written
@@ -253,7 +257,7 @@ pub allotted_so : (v : HeldVolume) (x : Exchange) (a : Allotment) (asked : TreeP
     → asked.nodes ≡ fresh_places (v.disk.bsize / 4) (length v.directory.leaves) (directory_count v.disk.bsize x.files) asked.leaves → 1 ≤ length asked.leaves
     → need ≡ need_of v x → need ≤ length (free_blocks v.bits) → lowest ≡ take need (free_blocks v.bits)
     → used ≡ x.file + (length asked.leaves + length asked.nodes) - 1 → a.file.items ≡ take x.file lowest
-    → SharesDirectory v x.files (drop x.file lowest) asked a.directory a.directory_part left → released ≡ given_back x ++ drop 1 left
+    → SharesDirectory v x.files (drop x.file lowest) asked a.directory left → released ≡ given_back x ++ drop 1 left
     → AreTouched v.disk.bsize (on_map v.label.blocks (turned (length lowest) v.bits (take used lowest) released v.map)) written
     → MapIsShared v written (drop used lowest) a.map_tree a.map_part gone → all ≡ used + (length a.map_part.leaves + length a.map_part.nodes)
     → a.map ≡ with_freed (released ++ gone) (with_marked (take all (free_blocks v.bits)) v.bits) → IsAllottedFor v x a
@@ -269,9 +273,9 @@ allotted_so v x a asked lowest released written left gone need used all director
     let needs : need ≡ x.file + (directory_taken bsize (length v.files) x.files (numbers_made x) + charge) = need_is in
     let whole : used + charge ≡ need = omega arith in
     let long : length lowest ≡ need = ap (λ (l : List ℕ). length l) low ∙ length-take-le need free enough in
-    let size : length a.directory_part.leaves + length a.directory_part.nodes ≡ length asked.leaves + length asked.nodes = ap (λ (p : TreePart). length p.leaves + length p.nodes) parts in
+    let size : length a.directory.part.leaves + length a.directory.part.nodes ≡ length asked.leaves + length asked.nodes = ap (λ (p : TreePart). length p.leaves + length p.nodes) parts in
     let behind = d.fresh in
-    let more = length a.directory_part.leaves + length a.directory_part.nodes - 1 in
+    let more = length a.directory.part.leaves + length a.directory.part.nodes - 1 in
     let counted : x.file + more ≡ used = omega arith in
     let own : own_fresh v a ≡ take used lowest = (λ i. file i ++ behind i) ∙ (take_both x.file more lowest ∙ ap (λ (n : ℕ). take n lowest) counted) in
     let own_long : length (own_fresh v a) ≡ used = ap (λ (l : List ℕ). length l) own ∙ length-take-le used lowest (omega arith) in

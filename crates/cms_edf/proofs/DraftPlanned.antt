@@ -152,7 +152,7 @@ entry_passes bsize name shape tree size can many high leaves =
 -- what is taken for a file was free
 pub taken_free : (v : HeldVolume) (x : Exchange) (a : Allotment) → IsAllottedFor v x a → AreFree v a.file.items
 taken_free v x a al n =
-    let behind = drop 1 (fresh_of (v.disk.bsize / 4) a.directory_part.leaves v.directory a.directory) in
+    let behind = drop 1 (fresh_of (v.disk.bsize / 4) a.directory.part.leaves v.directory a.directory.tree) in
     let of_map = fresh_of (v.disk.bsize / 4) a.map_part.leaves v.map a.map_tree in
     let all : times n (all_fresh v a) ≡ times n (take (length (all_fresh v a)) (free_blocks v.bits)) = ap (times n) al.lowest in
     let fewer = take_fewer (length (all_fresh v a)) (free_blocks v.bits) n in

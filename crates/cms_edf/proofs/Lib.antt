@@ -49,5 +49,10 @@ pub mod NodesKept
 pub mod Grown
 pub mod Begun
 pub mod MorePlanned
+pub mod GoingOn
+pub mod NewLeaves
+pub mod LeftLeaves
+pub mod NewNodes
+pub mod NextMade
 pub mod NewSystems
 pub mod RecordStarts

@@ -1,19 +1,22 @@
 -- What is made of an empty volume is ready to be written.
-use Rattle.std.proofs.Common.{◌≡◌, ℕ, ◌*◌, ◌<◌, ◌≤◌, List, [], ◌∷◌, ◌++◌, length, get_or, All, sym, ◌∙◌, ap, subst, arith}
+use Rattle.std.proofs.Common.{◌≡◌, inl, inr, ℕ, ◌*◌, ◌<◌, ◌≤◌, List, [], ◌∷◌, ◌++◌, length, get_or, All, sym, ◌∙◌, ap, subst, arith}
 use Rattle.std.specs.List.{range_with_len}
 use Rattle.std.proofs.lemmas.List.Elements.{All-nil, All-cons, All-get_or}
 use Rattle.std.proofs.lemmas.List.FromFn.{length-range_with_len}
 use Rattle.cms_fields.specs.Numbers.{up}
 use Rattle.cms_fields.specs.declared.time.Stamp.{Stamp}
+use Rattle.cms_model.specs.Lists.{In}
+use Rattle.cms_model.specs.SharedTrees.{MayBeWritten}
 use Rattle.cms_model.specs.Sizes.{map_size}
 use Rattle.cms_model.proofs.Quotients.{up_spec}
 use Rattle.cms_held.specs.EmptyVolumes.{MakePlan, IsEmptyVolume}
-use Rattle.cms_held.specs.Systems.{TreePart}
+use Rattle.cms_held.specs.Systems.{TreePart, whole_part}
 use Rattle.cms_held.proofs.Allotted.{map_some}
 use Rattle.cms_held.proofs.Made.{directory_long, facts, laid_out}
 use Rattle.cms_held.proofs.NewMap.{row_all}
 use Rattle.cms_edf.specs.BlockWrites.{IsBlockOf}
 use Rattle.cms_edf.specs.Doubts.{AreAt, IsReady}
+use Rattle.cms_edf.specs.NewDirectories.{GoesOn, NewDirectory}
 use Rattle.cms_edf.proofs.PartsReady.{left_all, right_all}
 
 -- all places of a list
@@ -22,6 +25,26 @@ at_all total blocks places is all =
     subst (AreAt total blocks) (sym is)
     (row_all (λ j. (j < length blocks) × IsBlockOf total (get_or blocks j 0)) 0 (length blocks)
     (λ n from to. let less : n < length blocks = omega arith in (less, All-get_or (IsBlockOf total) blocks n 0 less all)))
+
+-- the directory is written whole
+pub first_goes_on : (leaves : List ℕ) (d : NewDirectory) → leaves ≡ 4 ∷ [] → d.tree.leaves ≡ 4 ∷ [] → d.part ≡ whole_part d.tree → GoesOn leaves d
+first_goes_on leaves d held new part =
+    let places : d.part.leaves ≡ 0 ∷ [] = ap (λ (p : TreePart). p.leaves) part ∙ ap (λ (l : List ℕ). range_with_len 0 (length l)) new in
+    let one = ap (λ (l : List ℕ). length l) held in
+    let one' = ap (λ (l : List ℕ). length l) new in
+    record {
+      may = subst (MayBeWritten (length leaves) (length d.tree.leaves)) (sym places) (record {
+        ascend = λ k less. absurd (omega (arith, less));
+        within = λ j there. only j there (omega (arith, one'));
+        grown = λ j low high. inl (omega (arith, high, one'));
+      });
+      same = λ j less isnt. absurd (isnt (subst (In j) (sym places) (inl (omega (arith, less, one')))));
+      few = omega (arith, one, one');
+    }
+  where
+    only : (j : ℕ) → In j (0 ∷ []) → 0 < length d.tree.leaves → j < length d.tree.leaves
+    only j (inl same) some = omega arith
+    only j (inr more) some = absurd more
 
 -- the entries of a new directory
 pub two_are : (first second own maps before two : List ℕ) → before ≡ [] → two ≡ before ++ (own ++ maps) → own ≡ first → maps ≡ second → two ≡ first ++ second

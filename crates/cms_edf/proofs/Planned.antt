@@ -375,22 +375,22 @@ pub record Fills (v : HeldVolume) (x : Exchange) (a : Allotment) (entries : List
   pub allotted : IsAllottedFor v x a
   pub label : s.label.blocks ≡ v.label.blocks
   pub label_long : length s.label_bytes ≡ v.disk.bsize
-  pub directory_is : s.directory ≡ a.directory
-  pub directory_part_is : s.directory_part ≡ a.directory_part
+  pub directory_is : s.directory ≡ a.directory.tree
+  pub directory_part_is : s.directory_part ≡ a.directory.part
   pub map_is : s.map ≡ a.map_tree
   pub map_part_is : s.map_part ≡ a.map_part
   pub directory_long : length s.directory_bytes ≡ length s.directory_part.leaves * v.disk.bsize
 
 -- the data blocks of the directory that are written may be
 pub directory_may : (v : HeldVolume) (x : Exchange) (a : Allotment) (entries : List Entry) → Keeps v → IsAllottedFor v x a → x.files ≡ length entries → AreEnoughFor v entries x
-    → MayBeWritten (length v.directory.leaves) (length a.directory.leaves) a.directory_part.leaves
+    → MayBeWritten (length v.directory.leaves) (length a.directory.tree.leaves) a.directory.part.leaves
 directory_may v x a entries kept al files enough =
     let bsize = v.disk.bsize in
     let old_is : length v.directory.leaves ≡ directory_count bsize (length (entries_held v.files)) = kept.directory_is ∙ ap (directory_count bsize) (sym (entries_count v.files)) in
-    let new_is : length a.directory.leaves ≡ directory_count bsize (length entries) = al.directory_is ∙ ap (directory_count bsize) files in
-    let written : a.directory_part.leaves ≡ blocks_made bsize (length entries) (numbers_made x) = al.written ∙ ap (λ (n : ℕ). blocks_made bsize n (numbers_made x)) files in
-    subst (λ (n : ℕ). MayBeWritten n (length a.directory.leaves) a.directory_part.leaves) (sym old_is)
-    (subst (λ (n : ℕ). MayBeWritten (directory_count bsize (length (entries_held v.files))) n a.directory_part.leaves) (sym new_is)
+    let new_is : length a.directory.tree.leaves ≡ directory_count bsize (length entries) = al.directory_is ∙ ap (directory_count bsize) files in
+    let written : a.directory.part.leaves ≡ blocks_made bsize (length entries) (numbers_made x) = al.written ∙ ap (λ (n : ℕ). blocks_made bsize n (numbers_made x)) files in
+    subst (λ (n : ℕ). MayBeWritten n (length a.directory.tree.leaves) a.directory.part.leaves) (sym old_is)
+    (subst (λ (n : ℕ). MayBeWritten (directory_count bsize (length (entries_held v.files))) n a.directory.part.leaves) (sym new_is)
     (subst (MayBeWritten (directory_count bsize (length (entries_held v.files))) (directory_count bsize (length entries))) (sym written) enough.may))
 
 some_in : (n : ℕ) (xs : List ℕ) → In n xs → 1 ≤ length xs
@@ -413,18 +413,18 @@ is_ready v x a entries s f =
     let free : All P (free_blocks v.bits) = subst (λ (n : ℕ). All (IsBlockOf n) (free_blocks v.bits)) k.bits_are (free_within v.bits) in
     let own : All P (all_fresh v a) = subst (All P) (sym al.lowest) (All-take P (length (all_fresh v a)) (free_blocks v.bits) free) in
     let of_map = fresh_of fan a.map_part.leaves v.map a.map_tree in
-    let of_directory = fresh_of fan a.directory_part.leaves v.directory a.directory in
+    let of_directory = fresh_of fan a.directory.part.leaves v.directory a.directory.tree in
     let behind : All P (drop 1 of_directory) = right_of P a.file.items (drop 1 of_directory) (left_of P (own_fresh v a) of_map own) in
-    let written : a.directory_part.leaves ≡ blocks_made bsize (length entries) (numbers_made x) = al.written ∙ ap (λ (n : ℕ). blocks_made bsize n (numbers_made x)) f.files in
-    let zero' : In 0 a.directory_part.leaves = subst (In 0) (sym written) f.enough.first in
+    let written : a.directory.part.leaves ≡ blocks_made bsize (length entries) (numbers_made x) = al.written ∙ ap (λ (n : ℕ). blocks_made bsize n (numbers_made x)) f.files in
+    let zero' : In 0 a.directory.part.leaves = subst (In 0) (sym written) f.enough.first in
     let first : P (9 - v.label.origin) = (omega arith, omega arith) in
-    let directory_fresh : All P of_directory = subst (All P) (sym (fresh_first fan (9 - v.label.origin) a.directory_part.leaves v.directory a.directory al.origin zero'))
+    let directory_fresh : All P of_directory = subst (All P) (sym (fresh_first fan (9 - v.label.origin) a.directory.part.leaves v.directory a.directory.tree al.origin zero'))
     (All-cons P (9 - v.label.origin) (drop 1 of_directory) first behind) in
     let map_is : length v.map.leaves ≡ length a.map_tree.leaves = k.map_is ∙ sym al.map_is in
     let map_written : MayBeWritten (length v.map.leaves) (length a.map_tree.leaves) a.map_part.leaves =
     subst (λ (n : ℕ). MayBeWritten n (length a.map_tree.leaves) a.map_part.leaves) (sym map_is) (map_may bsize v.label.blocks (length a.map_tree.leaves) (turned (length (own_fresh v a) + map_size bsize v.label.blocks) v.bits (own_fresh v a) (own_released v x a) v.map) a.map_part.leaves
     (omega arith) al.map_is al.touched) in
-    let at_directory = at_fresh v.label.blocks bsize a.directory_part v.directory a.directory some (directory_may v x a entries k al f.files f.enough) al.directory al.directory_nodes directory_fresh in
+    let at_directory = at_fresh v.label.blocks bsize a.directory.part v.directory a.directory.tree some (directory_may v x a entries k al f.files f.enough) al.directory al.directory_nodes directory_fresh in
     let at_map = at_fresh v.label.blocks bsize a.map_part v.map a.map_tree some map_written al.map al.map_nodes (right_of P (own_fresh v a) of_map own) in
     let files_few = directory_small x.files bsize (omega arith) (let e = f.files in let n = f.few in omega arith) in
     let some_files = directory_some x.files bsize low in
@@ -436,11 +436,11 @@ is_ready v x a entries s f =
     let Parts : HeldTree → TreePart → HeldTree → TreePart → Type 0 = λ directory dp map' mp. (1 ≤ length directory.leaves) × (length directory.leaves < 2 ^ 32) × (1 ≤ length dp.leaves)
     × (length directory.pointers ≡ pointer_count fan (length directory.leaves)) × IsAt v.label.blocks directory dp × (1 ≤ length map'.leaves) × (length map'.leaves * bsize < 2 ^ 32)
     × (length map'.pointers ≡ pointer_count fan (length map'.leaves)) × IsAt v.label.blocks map' mp in
-    let own_parts : Parts a.directory a.directory_part a.map_tree a.map_part = (
+    let own_parts : Parts a.directory.tree a.directory.part a.map_tree a.map_part = (
       omega arith,
       omega arith,
-      some_in 0 a.directory_part.leaves zero',
-      nodes_are fan a.directory_part.leaves v.directory a.directory some al.directory,
+      some_in 0 a.directory.part.leaves zero',
+      nodes_are fan a.directory.part.leaves v.directory a.directory.tree some al.directory,
       at_directory,
       omega arith,
       short (length a.map_tree.leaves * bsize) (up v.label.blocks 8) bsize (omega arith) (omega arith) high,
@@ -449,9 +449,9 @@ is_ready v x a entries s f =
     ) in
     let parts : Parts s.directory s.directory_part s.map s.map_part =
     subst (λ (t : HeldTree). Parts t s.directory_part s.map s.map_part) (sym f.directory_is)
-    (subst (λ (p : TreePart). Parts a.directory p s.map s.map_part) (sym f.directory_part_is)
-    (subst (λ (t : HeldTree). Parts a.directory a.directory_part t s.map_part) (sym f.map_is)
-    (subst (λ (p : TreePart). Parts a.directory a.directory_part a.map_tree p) (sym f.map_part_is) own_parts))) in
+    (subst (λ (p : TreePart). Parts a.directory.tree p s.map s.map_part) (sym f.directory_part_is)
+    (subst (λ (t : HeldTree). Parts a.directory.tree a.directory.part t s.map_part) (sym f.map_is)
+    (subst (λ (p : TreePart). Parts a.directory.tree a.directory.part a.map_tree p) (sym f.map_part_is) own_parts))) in
     let label = f.label in
     record {
       size = k.sized;

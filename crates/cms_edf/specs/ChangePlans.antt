@@ -108,8 +108,8 @@ pub record AreSystemsFor (v : HeldVolume) (entries : List Entry) (stamp : Stamp)
 
 -- what is written for files with these entries in the blocks that are allotted
 pub record IsFilled (v : HeldVolume) (entries : List Entry) (a : Allotment) (stamp : Stamp) (s : Systems) : Type 0 where
-  pub directory_is : s.directory ≡ a.directory
-  pub directory_part_is : s.directory_part ≡ a.directory_part
+  pub directory_is : s.directory ≡ a.directory.tree
+  pub directory_part_is : s.directory_part ≡ a.directory.part
   pub map_is : s.map ≡ a.map_tree
   pub map_part_is : s.map_part ≡ a.map_part
   pub bits_are : s.bits ≡ a.map

@@ -6,6 +6,7 @@ pub mod Soundness
 pub mod BlockWrites
 pub mod Doubts
 pub mod NoRoom
+pub mod NewDirectories
 pub mod Allotments
 pub mod DirectoryFields
 pub mod ChangePlans

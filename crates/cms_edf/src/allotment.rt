@@ -1,6 +1,5 @@
 // The blocks that an update takes and gives back.
 ghost use Rattle.std.specs.Prelude.{◌≡◌, ◌≤◌, ◌<◌, ◌+◌, ◌-◌, ◌/◌, ◌*◌, ◌^◌, ◌∷◌, ◌++◌, length, take, drop, nat_le, ◌==◌, ◌&&◌, IfOk, IfErr, OnOk};
-ghost use Rattle.std.specs.List.{list_any};
 ghost use Rattle.cms_journal.specs.Journal.{IsBlockSize};
 ghost use Rattle.cms_fields.specs.Numbers.{up};
 ghost use Rattle.cms_fields.specs.Limits.{most_files};
@@ -15,11 +14,12 @@ ghost use Rattle.cms_held.specs.Allotments.{KeepsTree, on_map};
 ghost use Rattle.cms_held.specs.Kept.{Keeps};
 ghost use Rattle.cms_held.specs.MapShares.{turned};
 ghost use Rattle.cms_held.specs.Renewals.{with_freed};
-ghost use Rattle.cms_edf.specs.Allotments.{IsAllottedFor, MapIsShared, SharesDirectory, given_back, need_of, numbers_in, numbers_made};
+ghost use Rattle.cms_edf.specs.Allotments.{IsAllottedFor, IsNextMade, MapIsShared, SharesDirectory, given_back, need_of, numbers_in, numbers_made};
 ghost use Rattle.cms_edf.specs.NoRoom.{LacksRoom};
 ghost use Rattle.cms_edf.specs.declared.allotment.PlanFault.TheVariants.{Memory};
 
 use crate::held::{Held, HeldTree};
+use crate::new_directory::{NewDirectory, blocks_left};
 use crate::system::ENTRY_SIZE;
 use crate::tree_part::{TreePart, first_numbers, left_blocks, shared_tree};
 use cms_journal::BlockSize;
@@ -81,19 +81,26 @@ pub struct Exchange<'a> {
 pub struct Allotment {
     /// those of a file, in order
     pub file: Vec<u32>,
-    pub directory: HeldTree,
-    pub directory_part: TreePart,
+    pub directory: NewDirectory,
     pub map_tree: HeldTree,
     pub map_part: TreePart,
     pub map: Map,
 }
 
-// Whether the entry of one of these numbers stands in a data block that has so many entries.
-fn is_made(made: &[u32], each: u32, block: u32) -> bool
-    requires { 1 ≤ each }
-    ensures { result ≡ list_any (λ number. block == number / each) made.now }
+// The first data block from one on in which the entry of one of these numbers stands, or the end of so many data blocks.
+fn next_made(made: &[u32], each: u32, from: u32, count: u32) -> u32
+    requires each { 1 ≤ each }
+    requires within { from ≤ count }
+    ensures { IsNextMade made.now each from count result }
 {
-    made.iter().any(|number| block == *number / each)
+    let mut next = count;
+    for number in made {
+        let block = *number / each;
+        if from <= block && block < next {
+            next = block;
+        }
+    }
+    next
 }
 
 // How many data blocks a directory of so many files has.
@@ -118,10 +125,10 @@ fn blocks_with(
     let each = bsize.bytes() / ENTRY_SIZE;
     let count = (ENTRY_SIZE * (files + 2)).div_ceil(bsize.bytes());
     let mut blocks = Vec::with_capacity(alloc, made.len())?;
-    for block in 0..count {
-        if is_made(made, each, block) {
-            blocks.push(block)?;
-        }
+    let mut next = next_made(made, each, 0, count);
+    while next < count {
+        blocks.push(next)?;
+        next = next_made(made, each, next + 1, count);
     }
     Ok(blocks)
 }
@@ -194,7 +201,14 @@ pub fn take_blocks(alloc: Global, map: &Map, count: u32) -> Result<Taken, AllocE
     Ok(Taken { blocks, map })
 }
 
-// The part of the directory that is written, and the tree that it comes to.
+// The new directory, and the blocks of the old one that are given back.
+#[derive(Drop)]
+struct SharedDirectory {
+    directory: NewDirectory,
+    left: Vec<u32>,
+}
+
+// The part of the map that is written, and the tree that it comes to.
 #[derive(Drop)]
 struct SharedPart {
     tree: HeldTree,
@@ -210,7 +224,7 @@ fn share_directory(
     files: u32,
     places: TreePart,
     blocks: &[u32],
-) -> Result<SharedPart, AllocError>
+) -> Result<SharedDirectory, AllocError>
     requires few { files ≤ most_files }
     requires first { In 0 places.leaves }
     requires may { MayBeWritten (length held.now.volume.directory.leaves)
@@ -220,14 +234,23 @@ fn share_directory(
         (directory_count held.now.volume.disk.bsize files) places.leaves }
     requires enough { length places.leaves + length places.nodes ≤ length blocks.now + 1 }
     ensures { IfOk result (λ p.
-        SharesDirectory held.now.volume files blocks.now places p.tree p.places p.left.items) }
+        SharesDirectory held.now.volume files blocks.now places p.directory p.left.items) }
 {
     let bsize = held.bsize.bytes();
     let count = (ENTRY_SIZE * (files + 2)).div_ceil(bsize);
     let numbers = joined(alloc, 9 - held.label.origin, blocks)?;
-    let tree = shared_tree(alloc, &held.directory, count, bsize / 4, &places, &numbers)?;
-    let left = left_blocks(alloc, &held.directory, count, bsize / 4, &places.leaves)?;
-    Ok(SharedPart { tree, places, left })
+    let (leaves, nodes) = (&held.directory, &held.directory_nodes);
+    let left = blocks_left(alloc, leaves, nodes, count, bsize / 4, &places.leaves)?;
+    let directory = NewDirectory::of_shared(
+        alloc,
+        leaves,
+        nodes,
+        count,
+        bsize / 4,
+        places,
+        numbers,
+    )?;
+    Ok(SharedDirectory { directory, left })
 }
 
 // The new map's tree, of which these data blocks are written, and which takes these blocks in order.
@@ -428,8 +451,9 @@ fn allot_all(
     let lowest = take_blocks(alloc, &held.map, need)?.blocks;
     let used = exchange.file + written_count(&places) - 1;
     let (file, behind) = lowest.split_at(exchange.file as usize);
-    let directory = share_directory(alloc, held, exchange.files, places, behind)?;
-    let Ok(released) = released_blocks(alloc, exchange, &directory.left) else {
+    let shared = share_directory(alloc, held, exchange.files, places, behind)?;
+    let directory = shared.directory;
+    let Ok(released) = released_blocks(alloc, exchange, &shared.left) else {
         drop(directory);
         return Err(AllocError);
     };
@@ -444,8 +468,7 @@ fn allot_all(
     let shared = new.shared;
     Ok(Allotment {
         file,
-        directory: directory.tree,
-        directory_part: directory.places,
+        directory,
         map_tree: shared.tree,
         map_part: shared.places,
         map: new.map,
@@ -469,7 +492,7 @@ fn directory_places(
     let bsize = held.bsize.bytes();
     let written = blocks_made(alloc, held.bsize, exchange.files, exchange.made)?;
     let count = (ENTRY_SIZE * (exchange.files + 2)).div_ceil(bsize);
-    let before = held.directory.leaves().len() as u32;
+    let before = held.directory.len() as u32;
     TreePart::of_shared(alloc, before, count, bsize / 4, written)
 }
 

@@ -1,5 +1,5 @@
 // A change of a volume is planned.
-ghost use Rattle.std.specs.Prelude.{◌≡◌, ◌≤◌, ◌<◌, ◌+◌, ◌-◌, ◌*◌, ◌++◌, ◌^◌, true, length, map, slice_get, All, IfOk, IfErr, OnOk, Some};
+ghost use Rattle.std.specs.Prelude.{◌≡◌, ◌≤◌, ◌<◌, ◌+◌, ◌-◌, ◌*◌, ◌/◌, ◌++◌, ◌^◌, true, length, map, slice_get, All, IfOk, IfErr, OnOk, Some};
 ghost use Rattle.cms_journal.specs.Journal.{IsBlockSize};
 ghost use Rattle.cms_fields.specs.Labels.{with_label};
 ghost use Rattle.cms_fields.specs.Stamps.{is_stamp};
@@ -13,6 +13,8 @@ ghost use Rattle.cms_held.specs.Kept.{Keeps};
 ghost use Rattle.cms_held.specs.Renewals.{blocks_in, label_for, needed};
 ghost use Rattle.std.specs.List.{concat};
 ghost use Rattle.cms_model.specs.DirectoryParts.{directory_count};
+ghost use Rattle.cms_model.specs.Lists.{In};
+ghost use Rattle.cms_model.specs.Sizes.{pointer_count};
 ghost use Rattle.cms_held.specs.Systems as spec;
 ghost use Rattle.cms_held.specs.Systems.{directory_piece};
 ghost use Rattle.cms_edf.specs.declared.allotment.PlanFault.TheVariants.{Memory};
@@ -22,6 +24,7 @@ use crate::allotment::{Allotment, Exchange, Made, PlanFault, allot};
 use crate::change::{Change, FileEdit};
 use crate::directory_bytes::{SystemFields, file_field, system_fields};
 use crate::held::{Held, HeldTree};
+use crate::new_directory::NewDirectory;
 use crate::new_entries::NewEntries;
 use crate::step::{Plan, Step};
 use crate::system::ENTRY_SIZE;
@@ -71,7 +74,7 @@ fn append_block(
 fn directory_bytes(
     alloc: Global,
     bsize: BlockSize,
-    directory: &HeldTree,
+    directory: &NewDirectory,
     map_tree: &HeldTree,
     places: &[u32],
     entries: &NewEntries<'_>,
@@ -81,16 +84,21 @@ fn directory_bytes(
     requires few { length entries.now ≤ most_files }
     requires each { All CanWrite entries.now }
     requires back { All ReadsBack entries.now }
-    requires directory { length directory.now.leaves ≡ directory_count bsize (length entries.now) }
-    requires at { All (λ j. j < length directory.now.leaves) places.now }
+    requires directory { length directory.now.tree.leaves
+        ≡ directory_count bsize (length entries.now) }
+    requires first { In 0 directory.now.part.leaves }
+    requires nodes { length directory.now.tree.pointers
+        ≡ pointer_count (bsize / 4) (length directory.now.tree.leaves) }
+    requires at { All (λ j. j < length directory.now.tree.leaves) places.now }
     requires map { 1 ≤ length map_tree.now.leaves }
     requires map_few { length map_tree.now.leaves < 2 ^ 32 }
-    ensures bytes { IfOk result (λ v. (s : spec.Systems) → s.directory ≡ directory.now
+    ensures bytes { IfOk result (λ v. (s : spec.Systems) → s.directory ≡ directory.now.tree
         → s.map ≡ map_tree.now
         → v.items ≡ concat (map (directory_piece bsize s entries.now stamp.now) places.now)) }
     ensures long { IfOk result (λ v. length v.items ≡ length places.now * bsize) }
 {
-    let fields = system_fields(bsize, directory, map_tree, entries.count(), stamp);
+    let own = directory.file(bsize, entries.count() + FIRST_FILE);
+    let fields = system_fields(bsize, &own, map_tree, stamp);
     let each = bsize.bytes() / ENTRY_SIZE;
     let mut bytes = Vec::new(alloc);
     for block in places {
@@ -156,7 +164,6 @@ pub fn fill_systems(
     let Allotment {
         file: _,
         directory,
-        directory_part,
         map_tree,
         map_part,
         map,
@@ -166,7 +173,7 @@ pub fn fill_systems(
         held.bsize,
         &directory,
         &map_tree,
-        &directory_part.leaves,
+        &directory.part().leaves,
         entries,
         stamp,
     )?;
@@ -176,7 +183,6 @@ pub fn fill_systems(
         label: new.label,
         label_bytes: new.bytes,
         directory,
-        directory_part,
         directory_bytes,
         map_tree,
         map_part,

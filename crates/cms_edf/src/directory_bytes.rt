@@ -2,7 +2,6 @@
 ghost use Rattle.std.specs.Prelude.{◌≡◌, ◌≤◌, ◌<◌, ◌+◌, ◌-◌, ◌*◌, ◌^◌, ◌++◌, true, length, replicate, OnOk};
 ghost use Rattle.cms_fields.specs.Stamps.{is_stamp};
 ghost use Rattle.cms_fields.specs.Entries.{entry_bytes};
-ghost use Rattle.cms_fields.specs.Limits.{most_files};
 ghost use Rattle.cms_tree.specs.Builds.{root_of};
 ghost use Rattle.cms_held.specs.Systems.{file_at, system_entry};
 ghost use Rattle.cms_held.specs.Written.{CanWrite, ReadsBack, directory_name, map_name, system_name};
@@ -84,31 +83,26 @@ pub struct SystemFields {
     pub map: [u8; 64],
 }
 
-/// The directory's own entry, of so many files, and the map's, with the stamp.
+/// The directory's own entry, where it stands so, and the map's, with the stamp.
 pub fn system_fields(
     bsize: BlockSize,
-    directory: &HeldTree,
+    own: &SystemFile,
     map: &HeldTree,
-    files: u32,
     stamp: &Stamp,
 ) -> SystemFields
     requires stamp { is_stamp stamp.now ≡ true }
-    requires files { files ≤ most_files }
-    requires directory { 1 ≤ length directory.now.leaves }
-    requires directory_few { length directory.now.leaves < 2 ^ 32 }
     requires map { 1 ≤ length map.now.leaves }
     requires map_few { length map.now.leaves < 2 ^ 32 }
     ensures directory { result.directory
-        ≡ system_entry directory_name 64 (file_at bsize directory.now (files + 2)) stamp.now }
+        ≡ system_entry directory_name 64 own.now stamp.now }
     ensures map { result.map ≡ system_entry map_name bsize
         (file_at bsize map.now (length map.now.leaves)) stamp.now }
 {
-    let own = file_at(bsize, directory, files + 2);
     let maps = file_at(bsize, map, map.leaves().len() as u32);
     let own_name = system_name(1, b"DIRECTOR");
     let map_name = system_name(2, b"ALLOCMAP");
     SystemFields {
-        directory: system_entry(&own_name, ENTRY_SIZE, &own, stamp),
+        directory: system_entry(&own_name, ENTRY_SIZE, own, stamp),
         map: system_entry(&map_name, bsize.bytes(), &maps, stamp),
     }
 }

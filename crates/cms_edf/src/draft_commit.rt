@@ -22,6 +22,7 @@ ghost use Rattle.cms_held.specs.declared.shape.DraftShape.{DraftShape};
 ghost use Rattle.cms_edf.specs.Doubts.{UpdatesSystems};
 ghost use Rattle.cms_edf.specs.FileDrafts.{DraftStands, IsCommitted, IsCommittedAt, IsDraftFor, IsSomeDraft, LeadsToFile, list_with, put_in, tree_of};
 ghost use Rattle.cms_edf.specs.Growths.{IsFrontOf, IsMoreFor};
+ghost use Rattle.cms_edf.specs.NewDirectories.{GoesOn, directory_in};
 
 use crate::doubt::Doubt;
 use crate::draft::Draft;
@@ -48,6 +49,7 @@ impl Held {
     // The volume with a file that was put.
     fn renew_with(&mut self, file: HeldFile, systems: Systems)
         requires room { 1 ≤ self.old.spare }
+        requires goes { GoesOn self.old.volume.directory.leaves (directory_in systems) }
         requires kept { (edit : Edit) → edit.files ≡ list_with self.old.volume.files
             (position (same_name file.entry.name) (names_in self.old.volume.files)) file
             → Keeps (renewed self.old.volume edit systems) }
@@ -58,7 +60,7 @@ impl Held {
         put_file(&mut self.files, file);
         self.label = systems.label;
         self.label_bytes = systems.label_bytes;
-        self.directory = systems.directory;
+        self.directory_nodes = systems.directory.put_into(&mut self.directory);
         self.map_tree = systems.map_tree;
         self.map = systems.map;
     }
@@ -71,6 +73,7 @@ impl Held {
         systems: Systems,
     ) -> Result<(), Doubt>
         requires room { 1 ≤ self.old.spare }
+        requires goes { GoesOn self.old.volume.directory.leaves (directory_in systems) }
         requires kept { (edit : Edit) → edit.files ≡ list_with self.old.volume.files
             (position (same_name file.entry.name) (names_in self.old.volume.files)) file
             → Keeps (renewed self.old.volume edit systems) }
@@ -87,7 +90,7 @@ impl Held {
         ensures kept { OnErr result (self.new ≡ self.old) }
         ensures counts { OnUnits (seen W.World world.old) (seen W.World world.new) result }
     {
-        match systems.carry_out(world, self.unit) {
+        match systems.carry_out(world, self.unit, &self.directory) {
             Ok(()) => {
                 self.renew_with(file, systems);
                 Ok(())

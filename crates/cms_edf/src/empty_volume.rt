@@ -9,6 +9,7 @@ ghost use Rattle.cms_fields.specs.NewLabels.{first_label};
 ghost use Rattle.cms_fields.specs.Numbers.{up};
 ghost use Rattle.cms_fields.specs.Stamps.{is_stamp};
 ghost use Rattle.cms_fields.specs.declared.time.Stamp as times;
+ghost use Rattle.cms_model.specs.Lists.{In};
 ghost use Rattle.cms_model.specs.LawsUpdates.{wipe, Wipes};
 ghost use Rattle.cms_model.specs.Minidisks.{State};
 ghost use Rattle.cms_model.specs.Settled.{IsFirm, update};
@@ -19,14 +20,17 @@ ghost use Rattle.cms_held.specs.Kept.{IsKept};
 ghost use Rattle.cms_held.specs.Systems as spec;
 ghost use Rattle.cms_held.specs.Systems.{directory_bytes_of};
 ghost use Rattle.cms_edf.specs.Doubts.{IsCutOff};
+ghost use Rattle.cms_edf.specs.NewDirectories.{GoesOn, directory_in};
 ghost use Rattle.cms_edf.specs.declared.doubt.Doubt.TheVariants.{Either};
 ghost use Rattle.cms_world.specs.Seen.{OnUnits, seen};
 
 use crate::allotment::take_blocks;
 use crate::blocks::tree_in;
+use crate::change_plan::FIRST_FILE;
 use crate::directory_bytes::{append_systems, fill, system_fields};
 use crate::doubt::{Doubt, write_label_block};
 use crate::held::{Held, HeldFile, HeldTree};
+use crate::new_directory::NewDirectory;
 use crate::system_blocks::{LARGEST, Systems};
 use crate::tree_part::TreePart;
 use cms_fields::{Label, Stamp, first_fields};
@@ -52,6 +56,8 @@ pub struct MakePlan {
     bsize: BlockSize,
     blocks: u32,
     systems: Systems,
+    // the directory's data blocks
+    leaves: Vec<u32>,
     files: IndexMap<Name, HeldFile>,
 }
 
@@ -59,6 +65,7 @@ impl Model for MakePlan {
     ghost use Rattle.std.specs.Prelude.{◌≡◌, [], length};
     ghost use Rattle.cms_held.specs.Kept.{IsKept};
     ghost use Rattle.cms_held.specs.EmptyVolumes as volumes;
+    ghost use Rattle.cms_edf.specs.NewDirectories.{GoesOn, directory_in};
 
     ghost Value = { volumes.MakePlan };
 
@@ -66,7 +73,8 @@ impl Model for MakePlan {
 
     ghost invariant = { λ p. IsKept p.bsize p.blocks p.systems.label (length p.systems.label_bytes) p.systems.directory
         p.systems.map p.systems.bits []
-        × (p.files.entries ≡ []) };
+        × (p.files.entries ≡ []) × (p.leaves.items ≡ p.systems.directory.leaves)
+        × GoesOn p.leaves.items (directory_in p.systems) };
 }
 
 // A map with the tree in which it stands.
@@ -123,34 +131,34 @@ fn label_block(alloc: Global, label: &Label, stamp: &Stamp) -> Result<Vec<u8>, A
 fn directory_block(
     alloc: Global,
     bsize: BlockSize,
-    directory: &HeldTree,
+    directory: &NewDirectory,
     map: &HeldTree,
     stamp: &Stamp,
 ) -> Result<Vec<u8>, AllocError>
     requires stamp { is_stamp stamp.now ≡ true }
-    requires directory { length directory.now.leaves ≡ 1 }
+    requires directory { length directory.now.tree.leaves ≡ 1 }
+    requires none { length directory.now.tree.pointers ≡ 0 }
+    requires first { In 0 directory.now.part.leaves }
     requires map { 1 ≤ length map.now.leaves }
     requires map_few { length map.now.leaves < 2 ^ 32 }
-    ensures { IfOk result (λ v. (s : spec.Systems) → s.directory ≡ directory.now → s.map ≡ map.now
+    ensures { IfOk result (λ v. (s : spec.Systems) → s.directory ≡ directory.now.tree → s.map ≡ map.now
         → v.items ≡ directory_bytes_of bsize s [] stamp.now) }
 {
     let whole = bsize.bytes() as usize;
     let mut bytes = Vec::with_capacity(alloc, whole)?;
-    append_systems(&system_fields(bsize, directory, map, 0, stamp), &mut bytes)?;
+    let own = directory.file(bsize, FIRST_FILE);
+    append_systems(&system_fields(bsize, &own, map, stamp), &mut bytes)?;
     fill(&mut bytes, whole)?;
     Ok(bytes)
 }
 
-// The directory of an empty volume.
-fn first_directory(alloc: Global) -> Result<HeldTree, AllocError>
-    ensures { IfOk result (λ t. t ≡ record { leaves = 4 ∷ []; pointers = [] }) }
+// The data blocks of the directory of an empty volume.
+fn first_leaves(alloc: Global) -> Result<Vec<u32>, AllocError>
+    ensures { IfOk result (λ v. v.items ≡ 4 ∷ []) }
 {
     let mut leaves = Vec::with_capacity(alloc, 1)?;
     leaves.push(ORIGIN)?;
-    Ok(HeldTree {
-        leaves,
-        pointers: Vec::new(alloc),
-    })
+    Ok(leaves)
 }
 
 /// Plans an empty volume of all blocks of a unit, 8 at least, with this volume id, in EBCDIC, and this stamp. Nothing is written.
@@ -176,9 +184,9 @@ pub fn plan_make(
         in_use: used,
     };
     let label_bytes = label_block(alloc, &label, stamp)?;
-    let directory = first_directory(alloc)?;
+    let directory = NewDirectory::first(alloc, ORIGIN)?;
     let directory_bytes = directory_block(alloc, bsize, &directory, &tree, stamp)?;
-    let directory_part = TreePart::of_whole(alloc, &directory)?;
+    let leaves = first_leaves(alloc)?;
     let map_part = TreePart::of_whole(alloc, &tree)?;
     Ok(MakePlan {
         unit: unit.number,
@@ -189,12 +197,12 @@ pub fn plan_make(
             label,
             label_bytes,
             directory,
-            directory_part,
             directory_bytes,
             map_tree: tree,
             map_part,
             map,
         },
+        leaves,
         files: IndexMap::new(alloc),
     })
 }
@@ -244,10 +252,11 @@ pub fn make<W: World>(world: &mut W, plan: MakePlan) -> Result<Held, Doubt>
         bsize,
         blocks,
         systems,
+        leaves,
         files,
     } = plan;
-    match systems.carry_out(world, unit) {
-        Ok(()) => Ok(held(unit, bsize, blocks, systems, files)),
+    match systems.carry_out(world, unit, &leaves) {
+        Ok(()) => Ok(held(unit, bsize, blocks, systems, leaves, files)),
         Err(why) => {
             drop(systems);
             Err(why)
@@ -261,8 +270,11 @@ fn held(
     bsize: BlockSize,
     blocks: u32,
     systems: Systems,
+    mut leaves: Vec<u32>,
     files: IndexMap<Name, HeldFile>,
 ) -> Held
+    requires leaves { leaves.items ≡ systems.directory.leaves }
+    requires goes { GoesOn leaves.items (directory_in systems) }
     requires kept { IsKept bsize blocks systems.label
         (length systems.label_bytes) systems.directory systems.map systems.bits [] }
     requires empty { files.entries ≡ [] }
@@ -279,19 +291,20 @@ fn held(
         label,
         label_bytes,
         directory,
-        directory_part: _,
         directory_bytes: _,
         map_tree,
         map_part: _,
         map,
     } = systems;
+    let directory_nodes = directory.put_into(&mut leaves);
     Held {
         unit,
         bsize,
         blocks,
         label,
         label_bytes,
-        directory,
+        directory: leaves,
+        directory_nodes,
         map_tree,
         map,
         files,

@@ -132,7 +132,9 @@ pub struct Held {
     pub(crate) blocks: u32,
     pub(crate) label: Label,
     pub(crate) label_bytes: Vec<u8>,
-    pub(crate) directory: HeldTree,
+    // the directory's data blocks, with room for one more where a plan was made, and its pointer blocks
+    pub(crate) directory: Vec<u32>,
+    pub(crate) directory_nodes: Vec<u32>,
     pub(crate) map_tree: HeldTree,
     pub(crate) map: Map,
     pub(crate) files: IndexMap<Name, HeldFile>,
@@ -140,7 +142,7 @@ pub struct Held {
 }
 
 impl Model for Held {
-    ghost use Rattle.std.specs.Prelude.{◌≡◌, length};
+    ghost use Rattle.std.specs.Prelude.{◌≡◌, ◌-◌, length, min, vec_capacity, vec_len};
     ghost use Rattle.indexmap.specs.IndexMap.{values, spare};
     ghost use Rattle.cms_held.specs.HeldVolumes as volumes;
     ghost use Rattle.cms_edf.specs.Soundness.{IsSound};
@@ -153,16 +155,17 @@ impl Model for Held {
         disk = record { bsize = h.bsize; count = h.blocks };
         label = h.label;
         label_bytes = h.label_bytes.items;
-        directory = h.directory;
+        directory = record { leaves = h.directory.items; pointers = h.directory_nodes.items };
         map = h.map_tree;
         bits = h.map;
         files = values h.files;
         lost = h.lost;
       };
-      spare = spare h.files;
+      spare = min (spare h.files) (vec_capacity h.directory - vec_len h.directory);
     } };
 
-    ghost invariant = { λ h. IsSound h.bsize h.blocks h.label (length h.label_bytes.items) h.directory h.map_tree h.map
+    ghost invariant = { λ h. IsSound h.bsize h.blocks h.label (length h.label_bytes.items)
+        (record { leaves = h.directory.items; pointers = h.directory_nodes.items }) h.map_tree h.map
         h.files.entries (values h.files) };
 }
 
@@ -203,14 +206,15 @@ impl Held {
         self.find(name).unwrap()
     }
 
-    // Room for one more file.
+    // Room for one more file, and for one more data block of the directory.
     pub(crate) fn reserve(&mut self) -> Result<(), AllocError>
         ensures volume { self.new.volume ≡ self.old.volume }
         ensures spare { OnOk result (1 ≤ self.new.spare) }
         ensures places { self.old.spare ≤ self.new.spare }
         ensures kept { Keeps self.new.volume }
     {
-        self.files.reserve(1)
+        self.files.reserve(1)?;
+        self.directory.reserve(1)
     }
 
     /// The volume id, the size of blocks, and how many there are and are free.

@@ -19,6 +19,7 @@ mod growth;
 mod held;
 mod listing;
 mod met;
+mod new_directory;
 mod new_entries;
 mod opened_volume;
 mod step;

@@ -4,10 +4,12 @@ ghost use Rattle.cms_world.specs.Seen.{OnUnits, seen};
 ghost use Rattle.cms_held.specs.Systems.{system_writes};
 ghost use Rattle.cms_edf.specs.BlockWrites.{MayWrite, Writes};
 ghost use Rattle.cms_edf.specs.Doubts.{UpdatesSystems, target_of};
+ghost use Rattle.cms_edf.specs.NewDirectories.{GoesOn, directory_in};
 
 use crate::block_writes::{Target, write_directory, write_first, write_map_tree};
 use crate::doubt::{Doubt, confirm};
 use crate::held::HeldTree;
+use crate::new_directory::NewDirectory;
 use crate::tree_part::TreePart;
 use cms_fields::Label;
 use cms_journal::BlockSize;
@@ -24,8 +26,7 @@ pub struct Systems {
     pub(crate) bsize: BlockSize,
     pub(crate) label: Label,
     pub(crate) label_bytes: Vec<u8>,
-    pub(crate) directory: HeldTree,
-    pub(crate) directory_part: TreePart,
+    pub(crate) directory: NewDirectory,
     pub(crate) directory_bytes: Vec<u8>,
     pub(crate) map_tree: HeldTree,
     pub(crate) map_part: TreePart,
@@ -41,8 +42,8 @@ impl Model for Systems {
     ghost view = { λ s. record {
       label = s.label;
       label_bytes = s.label_bytes.items;
-      directory = s.directory;
-      directory_part = s.directory_part;
+      directory = s.directory.tree;
+      directory_part = s.directory.part;
       directory_bytes = s.directory_bytes.items;
       map = s.map_tree;
       map_part = s.map_part;
@@ -52,8 +53,8 @@ impl Model for Systems {
     ghost invariant = { λ s. IsReady s.bsize (record {
       label = s.label;
       label_bytes = s.label_bytes.items;
-      directory = s.directory;
-      directory_part = s.directory_part;
+      directory = s.directory.tree;
+      directory_part = s.directory.part;
       directory_bytes = s.directory_bytes.items;
       map = s.map_tree;
       map_part = s.map_part;
@@ -62,8 +63,9 @@ impl Model for Systems {
 }
 
 impl Systems {
-    // Writes the directory and the map, but for the label.
-    fn write<W: World>(&self, world: &mut W, unit: u8) -> Result<(), Failed>
+    // Writes the directory and the map, but for the label. These are the directory's data blocks that are held.
+    fn write<W: World>(&self, world: &mut W, unit: u8, held: &[u32]) -> Result<(), Failed>
+        requires goes { GoesOn held.now (directory_in self.now) }
         requires may { MayWrite (W.told world.old) (target_of unit self.now) }
         ensures writes { Writes (seen W.World world.old) (seen W.World world.new)
             (target_of unit self.now)
@@ -80,7 +82,7 @@ impl Systems {
             world,
             &target,
             &self.directory,
-            &self.directory_part,
+            held,
             &self.directory_bytes,
             block,
         ) {
@@ -95,28 +97,23 @@ impl Systems {
             &self.map,
             block,
         ) {
-            Ok(()) => write_first(
-                world,
-                &target,
-                &self.directory,
-                &self.directory_part,
-                &self.directory_bytes,
-            ),
+            Ok(()) => write_first(world, &target, &self.directory, &self.directory_bytes),
             Err(Failed) => Err(Failed),
         }
     }
 
     /// Carries out an update: writes the directory and the map, syncs, writes the label, and syncs.
     ///
-    /// Takes no memory. At `Old` a part of the writes was made and nothing was synced since; at `Either` all of them were, with one
+    /// These are the data blocks of the directory that is held. Takes no memory. At `Old` a part of the writes was made and nothing was synced since; at `Either` all of them were, with one
     /// sync, and perhaps the label was written.
-    pub fn carry_out<W: World>(&self, world: &mut W, unit: u8) -> Result<(), Doubt>
+    pub fn carry_out<W: World>(&self, world: &mut W, unit: u8, held: &[u32]) -> Result<(), Doubt>
+        requires goes { GoesOn held.now (directory_in self.now) }
         requires may { MayWrite (W.told world.old) (target_of unit self.now) }
         ensures updates { UpdatesSystems (W.told world.old)
             (W.told world.new) unit self.now result }
         ensures counts { OnUnits (seen W.World world.old) (seen W.World world.new) result }
     {
-        match self.write(world, unit) {
+        match self.write(world, unit, held) {
             Ok(()) => confirm(world, unit, self.bsize, &self.label_bytes),
             Err(Failed) => Err(Doubt::Old),
         }

@@ -11,6 +11,7 @@ ghost use Rattle.cms_model.specs.Minidisks.{Minidisk};
 ghost use Rattle.cms_held.specs.MinidiskUpdates.{IsHeldMinidisk};
 ghost use Rattle.cms_edf.specs.Updates.{CarriesOut, IsPlan, IsStopped, LeadsTo, step_events, with_label_bytes};
 ghost use Rattle.cms_edf.specs.Doubts.{UpdatesSystems};
+ghost use Rattle.cms_edf.specs.NewDirectories.{GoesOn, directory_in};
 ghost use Rattle.cms_held.specs.HeldVolumes.{HeldFile};
 ghost use Rattle.cms_held.specs.Kept.{Keeps};
 ghost use Rattle.cms_edf.specs.ChangePlans.{DoesTo, IsPlanFor, MayEdit};
@@ -31,6 +32,7 @@ impl Held {
     fn renew(&mut self, edit: &FileEdit, systems: Systems)
         requires may { MayEdit self.old.volume.files edit.now }
         requires room { 1 ≤ self.old.spare }
+        requires goes { GoesOn self.old.volume.directory.leaves (directory_in systems) }
         requires kept { (x : Edit) → DoesTo self.old.volume.files edit.now x
             → Keeps (renewed self.old.volume x systems) }
         ensures { (x : Edit) → DoesTo self.old.volume.files edit.now x
@@ -39,7 +41,7 @@ impl Held {
         edit.edit_files(&mut self.files);
         self.label = systems.label;
         self.label_bytes = systems.label_bytes;
-        self.directory = systems.directory;
+        self.directory_nodes = systems.directory.put_into(&mut self.directory);
         self.map_tree = systems.map_tree;
         self.map = systems.map;
     }
@@ -55,6 +57,7 @@ impl Held {
     ) -> Result<(), Doubt>
         requires may { MayEdit self.old.volume.files edit.now }
         requires room { 1 ≤ self.old.spare }
+        requires goes { GoesOn self.old.volume.directory.leaves (directory_in systems) }
         requires kept { (x : Edit) → DoesTo self.old.volume.files edit.now x
             → Keeps (renewed self.old.volume x systems) }
         requires blocks { ForSome (W.told world.old)
@@ -69,7 +72,7 @@ impl Held {
         ensures kept { OnErr result (self.new ≡ self.old) }
         ensures counts { OnUnits (seen W.World world.old) (seen W.World world.new) result }
     {
-        match systems.carry_out(world, self.unit) {
+        match systems.carry_out(world, self.unit, &self.directory) {
             Ok(()) => {
                 self.renew(edit, systems);
                 Ok(())

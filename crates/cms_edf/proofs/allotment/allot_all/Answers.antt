@@ -88,7 +88,7 @@ returns c =
     let s = splits_so v x asked kept c.requires.few c.requires.written c.requires.nodes c.requires.first c.requires.may in
     let lowest = c.in_ok-lowest.field-0.blocks.items in
     let released = c.in-Ok.released.items in
-    let directory = c.in_ok-directory.directory in
+    let directory = c.in_ok-shared.shared in
     let new = c.in-Ok-take_map in
     let shared = new.new.shared in
     let used = x.file + c.written_count.result - 1 in
@@ -102,7 +102,7 @@ returns c =
     let bits = with_marked (take all (free_blocks v.bits)) v.bits in
     allotted_so v x _ asked lowest released shared.places.leaves directory.left.items shared.left.items c.args.need used all kept.directory_is kept.map_is c.requires.written c.requires.nodes s.some
     c.requires.need c.requires.enough low (ap (λ (n : ℕ). x.file + n - 1) c.written_count.ensures) file
-    (subst (λ (l : List ℕ). SharesDirectory v x.files l asked directory.tree directory.places directory.left.items) behind c.in_ok-directory.ensures)
+    (subst (λ (l : List ℕ). SharesDirectory v x.files l asked directory.directory directory.left.items) behind c.in_ok-shared.ensures)
     (c.in-Ok.ensures ∙ ap (λ (l : List ℕ). given_back x ++ drop 1 l) c.deref-2.ensures.value)
     (subst (λ (l : List ℕ). AreTouched v.disk.bsize l shared.places.leaves) (λ i. on_map v.label.blocks (turned (length (lows i)) v.bits (take used (lows i)) (given i) v.map)) new.ensures.touched)
     (subst (λ (l : List ℕ). MapIsShared v shared.places.leaves (drop used l) shared.tree shared.places shared.left.items) lows new.ensures.shared) refl
@@ -111,5 +111,5 @@ returns c =
 pub returns-in_err-lowest : goal.returns-in_err-lowest
 returns-in_err-lowest c = ok_at_err _ c.from_residual.result _ c.from_residual.ensures.1
 
-pub returns-in_err-directory : goal.returns-in_err-directory
-returns-in_err-directory c = ok_at_err _ c.from_residual-in_err-directory.result _ c.from_residual-in_err-directory.ensures.1
+pub returns-in_err-shared : goal.returns-in_err-shared
+returns-in_err-shared c = ok_at_err _ c.from_residual-in_err-shared.result _ c.from_residual-in_err-shared.ensures.1

@@ -1,21 +1,20 @@
-use Rattle.std.proofs.Common.{arith}
-use Rattle.cms_held.specs.Systems.{data_writes}
+use Rattle.std.proofs.Common.{arith, length}
+use Rattle.cms_model.specs.Lists.{cut}
+use Rattle.cms_held.specs.Systems.{block_writes}
+use Rattle.cms_held.proofs.PiecesWritten.{piece_at}
 use Rattle.cms_world.specs.Seen.{seen}
-use Rattle.cms_edf.proofs.PlacesWritten.{at_place, data_at, data_count}
+use Rattle.cms_edf.proofs.PlacesWritten.{data_count}
 use Rattle.cms_edf.proofs.WritesMade.{none_made, next_made, next_failed, all_made}
 use Rattle.cms_edf.proofs.block_writes.write_data.Goals as goal
 
 pub loop-nth-init : goal.loop-nth-init
 loop-nth-init g c = record { writes = none_made (seen g.W.World c.args.world.now) c.args.target.now c.requires.may }
 
-pub bounds-blocks-places : goal.bounds-blocks-places
-bounds-blocks-places g c = (at_place c.args.target.now.total c.args.blocks.now c.args.places.now c.loop-nth.nth c.requires.at c.loop-nth-test.true).0
-
 pub returns-in-Err : goal.returns-in-Err
 returns-in-Err g c =
     let show = seen g.W.World in
     let t = c.args.target.now in
-    let at = data_at t.bsize c.args.blocks.now c.args.places.now c.args.bytes.now c.loop-nth.nth c.loop-nth-test.true in
+    let at = piece_at c.args.blocks.now t.bsize c.args.bytes.now c.loop-nth.nth c.loop-nth-test.true in
     record {
       writes = next_failed (show c.args.world.now) (show c.loop-nth.world) (show c.write_block.new.self) t _ c.loop-nth.nth _ _ at c.loop-nth.invariant.writes
           (rw c.bytes-size.ensures.value at c.in-Err.ensures.failed) c.in-Err.ensures.cause.later c.in-Err.ensures.cause.failed c.in-Err.ensures.edges;
@@ -25,7 +24,7 @@ pub loop-nth-preserved : goal.loop-nth-preserved
 loop-nth-preserved g c =
     let show = seen g.W.World in
     let t = c.args.target.now in
-    let at = data_at t.bsize c.args.blocks.now c.args.places.now c.args.bytes.now c.loop-nth.nth c.loop-nth-test.true in
+    let at = piece_at c.args.blocks.now t.bsize c.args.bytes.now c.loop-nth.nth c.loop-nth-test.true in
     record {
       writes = next_made (show c.args.world.now) (show c.loop-nth.world) (show c.write_block.new.self) t _ c.loop-nth.nth _ at c.loop-nth.invariant.writes
           (rw c.bytes-size.ensures.value at c.in-Ok.ensures.wrote) c.in-Ok.ensures.cause.later c.in-Ok.ensures.edges;
@@ -35,8 +34,8 @@ pub returns : goal.returns
 returns g c =
     let show = seen g.W.World in
     let t = c.args.target.now in
-    let long = data_count t.bsize c.args.blocks.now c.args.places.now c.args.bytes.now in
+    let long = data_count t.bsize c.args.blocks.now c.args.bytes.now in
     record {
-      writes = all_made (show c.args.world.now) (show c.loop-nth.world) t (data_writes t.bsize c.args.blocks.now c.args.places.now c.args.bytes.now) c.loop-nth.nth
+      writes = all_made (show c.args.world.now) (show c.loop-nth.world) t (block_writes c.args.blocks.now (cut (length c.args.blocks.now) t.bsize c.args.bytes.now)) c.loop-nth.nth
           (omega arith) c.loop-nth.invariant.writes;
     }

@@ -1,6 +1,7 @@
 use Rattle.std.proofs.Common.{rules, ◌≡◌, ◌+◌, ◌*◌, ◌/◌, ◌<◌, ◌≤◌, ℕ, List, All, length, map, get_or, ap, arith, sym, ◌∙◌, refl, subst}
 use Rattle.std.specs.List.{concat}
 use Rattle.std.proofs.lemmas.List.{take_all}
+use Rattle.cms_model.specs.Systems.{SystemFile}
 use Rattle.cms_held.specs.HeldVolumes.{HeldTree}
 use Rattle.cms_held.specs.Systems.{file_at, system_entry}
 use Rattle.cms_held.specs.Written.{directory_name, map_name}
@@ -14,7 +15,7 @@ append_block-requires-clause-small c =
     let l = c.loop-block in
     let b = c.bytes-each.ensures in
     let whole : c.bytes-each.result / 64 * 64 ≡ a.bsize = ap (λ (n : ℕ). n / 64 * 64) b.value ∙ each_whole a.bsize b.size in
-    few_numbers a.bsize (length a.directory.now.leaves) (length a.entries.now) (c.bytes-each.result / 64) (get_or a.places.now l.block-index 0) (omega (arith, b.value, b.least)) (omega (arith, b.value, b.most)) whole
+    few_numbers a.bsize (length a.directory.now.tree.leaves) (length a.entries.now) (c.bytes-each.result / 64) (get_or a.places.now l.block-index 0) (omega (arith, b.value, b.least)) (omega (arith, b.value, b.most)) whole
     c.requires.few c.requires.directory (c.requires.at l.block-index 0 (search rules))
 
 pub loop-block-preserved : goal.loop-block-preserved
@@ -33,7 +34,8 @@ returns-clause-bytes c = λ s is_directory is_map.
     let whole : each * 64 ≡ a.bsize = ap (λ (n : ℕ). n / 64 * 64) b.value ∙ each_whole a.bsize b.size in
     let past : length a.places.now ≤ l.block-index = search rules in
     let own : fields.result.directory ≡ system_entry directory_name 64 (file_at a.bsize s.directory (length a.entries.now + 2)) a.stamp.now =
-    fields.ensures.directory ∙ (λ i. system_entry directory_name 64 (file_at a.bsize (sym is_directory i) (c.count.ensures i + 2)) a.stamp.now) in
+    fields.ensures.directory ∙ (ap (λ (f : SystemFile). system_entry directory_name 64 f a.stamp.now) c.file-own.ensures
+    ∙ (λ i. system_entry directory_name 64 (file_at a.bsize (sym is_directory i) (c.count.ensures i + 2)) a.stamp.now)) in
     let maps : fields.result.map ≡ system_entry map_name a.bsize (file_at a.bsize s.map (length s.map.leaves)) a.stamp.now =
     fields.ensures.map ∙ (λ i. system_entry map_name a.bsize (file_at a.bsize (sym is_map i) (length (sym is_map i).leaves)) a.stamp.now) in
     let room = has_room a.bsize (length s.directory.leaves) (length a.entries.now) (omega (arith, b.value, b.least)) (ap (λ (t : HeldTree). length t.leaves) is_directory ∙ c.requires.directory) in

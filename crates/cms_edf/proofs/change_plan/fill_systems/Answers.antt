@@ -1,8 +1,11 @@
-use Rattle.std.proofs.Common.{rules, ◌≡◌, ◌*◌, ◌<◌, ℕ, List, All, map, get_or, ap, sym, ◌∙◌, length, refl, subst}
+use Rattle.std.proofs.Common.{rules, arith, ◌≡◌, ◌*◌, ◌/◌, ◌<◌, ℕ, List, All, map, get_or, ap, sym, ◌∙◌, length, refl, subst}
 use Rattle.std.specs.List.{concat}
 use Rattle.cms_fields.specs.Labels.{with_label}
 use Rattle.cms_fields.specs.declared.label.Label.{Label}
+use Rattle.cms_journal.proofs.Sizes.{block_bounds}
+use Rattle.cms_model.specs.Sizes.{pointer_count}
 use Rattle.cms_tree.proofs.Own.{in_at}
+use Rattle.cms_held.proofs.KeptTrees.{nodes_are}
 use Rattle.cms_held.specs.HeldVolumes.{Held}
 use Rattle.cms_held.specs.Kept.{Keeps}
 use Rattle.cms_held.specs.Renewals.{label_for}
@@ -27,8 +30,8 @@ invariant_of-result c =
     let s : Systems = record {
       label = c.in_ok-new.new.label;
       label_bytes = c.in_ok-new.new.bytes.items;
-      directory = a.directory;
-      directory_part = a.directory_part;
+      directory = a.directory.tree;
+      directory_part = a.directory.part;
       directory_bytes = c.in_ok-directory_bytes.directory_bytes.items;
       map = a.map_tree;
       map_part = a.map_part;
@@ -36,7 +39,7 @@ invariant_of-result c =
     } in
     let size = ap (λ (h : Held). h.volume.disk.bsize) c.held.view_is in
     let total = ap (λ (h : Held). h.volume.label.blocks) c.held.view_is in
-    let places : c.deref.result.now ≡ a.directory_part.leaves = search rules in
+    let places : c.deref.result.now ≡ a.directory.part.leaves = search rules in
     let label = c.in_ok-new.ensures.label ∙ c.label_for.ensures.label in
     subst (λ (n : ℕ). IsReady n s) (sym size)
     (is_ready v c.args.exchange.now a c.args.entries.now s
@@ -52,7 +55,7 @@ invariant_of-result c =
       directory_part_is = refl;
       map_is = refl;
       map_part_is = refl;
-      directory_long = c.in_ok-directory_bytes.ensures.long ∙ (ap (λ (l : List ℕ). length l * c.held.inside.bsize) places ∙ ap (λ (n : ℕ). length a.directory_part.leaves * n) size);
+      directory_long = c.in_ok-directory_bytes.ensures.long ∙ (ap (λ (l : List ℕ). length l * c.held.inside.bsize) places ∙ ap (λ (n : ℕ). length a.directory.part.leaves * n) size);
     }))
 
 -- the data blocks of the directory that are written are some of it
@@ -60,11 +63,11 @@ pub directory_bytes-requires-clause-at : goal.directory_bytes-requires-clause-at
 directory_bytes-requires-clause-at c =
     let v = c.args.held.now.volume in
     let a = c.args.allotment in
-    let written = a.directory_part.leaves in
+    let written = a.directory.part.leaves in
     let places : c.deref.result.now ≡ written = search rules in
     let kept : Keeps v = subst (λ (h : Held). Keeps h.volume) c.held.view_is c.held.invariant.kept in
     let may = directory_may v c.args.exchange.now a c.args.entries.now kept c.requires.allotted c.requires.files c.requires.enough in
-    subst (All (λ j. j < length a.directory.leaves)) (sym places) (all_at (λ j. j < length a.directory.leaves) written (λ j less. may.within (get_or written j 0) (in_at written j less)))
+    subst (All (λ j. j < length a.directory.tree.leaves)) (sym places) (all_at (λ j. j < length a.directory.tree.leaves) written (λ j less. may.within (get_or written j 0) (in_at written j less)))
 
 pub returns : goal.returns
 returns c =
@@ -73,8 +76,8 @@ returns c =
     let s : Systems = record {
       label = c.in_ok-new.new.label;
       label_bytes = c.in_ok-new.new.bytes.items;
-      directory = a.directory;
-      directory_part = a.directory_part;
+      directory = a.directory.tree;
+      directory_part = a.directory.part;
       directory_bytes = c.in_ok-directory_bytes.directory_bytes.items;
       map = a.map_tree;
       map_part = a.map_part;
@@ -82,7 +85,7 @@ returns c =
     } in
     let size : c.held.inside.bsize ≡ v.disk.bsize = ap (λ (h : Held). h.volume.disk.bsize) c.held.view_is in
     let old : c.held.inside.label ≡ v.label = ap (λ (h : Held). h.volume.label) c.held.view_is in
-    let places : c.deref.result.now ≡ a.directory_part.leaves = search rules in
+    let places : c.deref.result.now ≡ a.directory.part.leaves = search rules in
     record {
       directory_is = refl;
       directory_part_is = refl;
@@ -126,3 +129,12 @@ directory_bytes-requires-clause-map_few c = c.requires.map_few
 
 pub label_for-requires-clause-origin : goal.label_for-requires-clause-origin
 label_for-requires-clause-origin c = c.held.invariant.kept.origin_high
+
+pub directory_bytes-requires-clause-nodes : goal.directory_bytes-requires-clause-nodes
+directory_bytes-requires-clause-nodes c =
+    let v = c.args.held.now.volume in
+    let d = c.args.allotment.directory in
+    let kept : Keeps v = subst (λ (h : Held). Keeps h.volume) c.held.view_is c.held.invariant.kept in
+    let low = (block_bounds v.disk.bsize kept.sized).0 in
+    let size = ap (λ (h : Held). h.volume.disk.bsize) c.held.view_is in
+    nodes_are (v.disk.bsize / 4) d.part.leaves v.directory d.tree (omega (arith, low)) c.requires.allotted.directory ∙ ap (λ (n : ℕ). pointer_count (n / 4) (length d.tree.leaves)) (sym size)

@@ -3,7 +3,6 @@ use Rattle.std.specs.Map.{keys_of}
 use Rattle.std.specs.Vec.Iter.{into_iter_items}
 use Rattle.std.proofs.lemmas.List.{length_push, map_push, nil_from_length}
 use Rattle.std.proofs.lemmas.List.Elements.{All-nil, All-push}
-use Rattle.std.proofs.lemmas.Result.{err_from_is_err_and}
 use Rattle.indexmap.specs.IndexMap.{values}
 use Rattle.cms_journal.specs.Journal.{contents_of}
 use Rattle.cms_names.specs.declared.name.Name.{Name}

@@ -21,6 +21,7 @@ use Rattle.cms_edf.specs.declared.doubt.Doubt.TheVariants.{Old}
 use Rattle.cms_edf.proofs.Added.{add_whole}
 use Rattle.cms_edf.proofs.Committed.{both_cause, can_write, commit_keeps, committed_at, events_behind, events_failed, grown_behind, put_whole, same_files, system_there}
 use Rattle.cms_edf.proofs.DraftPut.{more_edit, more_edit_is, more_is_some, new_edit_is, new_is_some}
+use Rattle.cms_edf.proofs.GoingOn.{draft_goes_on}
 use Rattle.cms_edf.proofs.draft_commit.commit.Given as given
 use Rattle.cms_edf.proofs.draft_commit.commit.Goals as goal
 use Rattle.cms_edf.proofs.draft_commit.commit.Goals.{After-shape-2, In-Ok}
@@ -227,3 +228,8 @@ returns-in-Err-clause-kept g c = refl
 
 pub returns-in-Err-clause-volume : goal.returns-in-Err-clause-volume
 returns-in-Err-clause-volume g c = tt
+
+pub carry_file-requires-clause-goes : goal.carry_file-requires-clause-goes
+carry_file-requires-clause-goes g c =
+    let at = (goal.at.carry_file-requires-clause-goes g c).After-shape-2 in
+    draft_goes_on c.args.held.now.volume (draft_of g at) (some_of g at)

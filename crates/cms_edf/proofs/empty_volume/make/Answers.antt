@@ -1,9 +1,10 @@
-use Rattle.std.proofs.Common.{ℕ, sym, subst}
+use Rattle.std.proofs.Common.{ℕ, List, sym, subst}
 use Rattle.cms_journal.specs.Journal.{HasBlocks, IsWritable}
 use Rattle.cms_held.specs.EmptyVolumes.{MakePlan, made_writes}
 use Rattle.cms_held.specs.Systems.{system_writes}
 use Rattle.cms_held.proofs.Made.{made_empty}
 use Rattle.cms_edf.specs.Doubts.{IsCutOff}
+use Rattle.cms_edf.specs.NewDirectories.{GoesOn, directory_in}
 use Rattle.cms_edf.proofs.Listings.{fewer_on}
 use Rattle.cms_edf.proofs.empty_volume.make.Goals as goal
 
@@ -13,6 +14,7 @@ carry_out-requires g c =
     let kept = c.plan.invariant.0 in
     let back = sym c.plan.view_is in
     record {
+      goes = subst (λ (l : List ℕ). GoesOn l (directory_in s)) (sym c.deref.ensures.value) c.plan.invariant.3;
       may = record {
         blocks = λ j told. subst (λ (n : ℕ). HasBlocks j.units c.plan.inside.unit s.label.blocks n) (sym kept.label_long)
             (fewer_on j.units c.plan.inside.unit s.label.blocks c.plan.inside.blocks c.plan.inside.bsize kept.within

@@ -1,4 +1,4 @@
-use Rattle.std.proofs.Common.{rules, ◌≡◌, ◌-◌, ◌/◌, ℕ, List, [], Ok, Err, Some, None, sym, ◌∙◌, ap, subst, drop, length}
+use Rattle.std.proofs.Common.{◌≡◌, ◌-◌, ◌/◌, ℕ, List, [], Ok, Err, Some, None, sym, ◌∙◌, ap, subst, drop, length}
 use Rattle.std.proofs.lemmas.Result.{err_from_is_err_and}
 use Rattle.cms_journal.specs.Journal.{Journal, contents_of}
 use Rattle.cms_model.specs.Trees.{image_of, bytes_at}

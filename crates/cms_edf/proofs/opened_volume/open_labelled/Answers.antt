@@ -104,7 +104,7 @@ returns-clause-read g c = λ j told.
           (subst (λ (q : Place). lost_in (bytes_at (image_of (contents_of j q.unit)) t.map.leaves.items) q.total (tree_blocks (met_in l.walked) (met_in t.map) (map met_in t.files.items)) ≡ Ok m.lost)
           at lost)
           (subst (λ (q : Place). contents_in q.bsize (image_of (contents_of j q.unit)) 2 l.entries.items (map met_in t.files.items) ≡ Ok has.contents) at has.are);
-      held_is = rw (c.tree_held.ensures, c.tree_held-2.ensures) (held_so there (record { bsize = a.bsize; count = a.unit.now.blocks }) image a.label a.label_bytes.items l t m.map
+      held_is = rw c.tree_held.ensures (held_so there (record { bsize = a.bsize; count = a.unit.now.blocks }) image a.label a.label_bytes.items l t m.map
           (values c.in-Ok-read_contents.files) m.lost has.contents refl (c.requires.bytes j told)
           (subst (λ (q : Place). l.walked.pointers.items ≡ nodes_at (image_of (contents_of j q.unit)) (system_at q l.directory (Some q.origin))) at listing.1)
           (subst (λ (q : Place). l.directory.levels ≡ levels (q.bsize / 4) l.directory.blocks) at c.in_ok-listing.ensures.holds.directory_shape)
@@ -131,14 +131,14 @@ invariant_of-result g c =
         origin_low = (origin_in c.args.label.origin c.requires.origin).0;
         origin_high = (origin_in c.args.label.origin c.requires.origin).1;
         label_long = c.requires.long;
-        directory_shape = walked_shape c.args.bsize c.in_ok-listing.listing.directory.blocks _ c.in_ok-listing.listing.walked c.tree_held.ensures l.leaves l.small.0
+        directory_shape = walked_shape c.args.bsize c.in_ok-listing.listing.directory.blocks _ c.in_ok-listing.listing.walked refl l.leaves l.small.0
             (subst (λ (q : Place). length c.in_ok-listing.listing.walked.pointers.items ≡ pointer_count (q.bsize / 4) c.in_ok-listing.listing.directory.blocks) place l.pointers);
-        directory_is = ap (λ (t : HeldTree). length t.leaves) c.tree_held.ensures ∙ (l.leaves.1
+        directory_is = (l.leaves.1
             ∙ (subst (λ (q : Place). c.in_ok-listing.listing.directory.blocks ≡ directory_count q.bsize (length c.in_ok-listing.listing.entries.items)) place l.counts.0
             ∙ ap (directory_count c.args.bsize) (sym files)));
-        map_is = ap (λ (t : HeldTree). length t.leaves) c.tree_held-2.ensures ∙ (t.map.0
+        map_is = ap (λ (t : HeldTree). length t.leaves) c.tree_held.ensures ∙ (t.map.0
             ∙ subst (λ (q : Place). c.in_ok-listing.listing.map.blocks ≡ up (up q.total 8) q.bsize) place l.counts.1);
-        map_shape = walked_shape c.args.bsize c.in_ok-listing.listing.map.blocks _ c.in-Ok.trees.map c.tree_held-2.ensures (l.map_shape.0, t.map.0) l.small.1
+        map_shape = walked_shape c.args.bsize c.in_ok-listing.listing.map.blocks _ c.in-Ok.trees.map c.tree_held.ensures (l.map_shape.0, t.map.0) l.small.1
             (subst (λ (q : Place). length c.in-Ok.trees.map.pointers.items ≡ pointer_count (q.bsize / 4) c.in_ok-listing.listing.map.blocks) place t.pointers);
         bits_are = c.in-Ok-read_marks.ensures.count ∙ ap (λ (q : Place). q.total) place;
         few = c.in-Ok-read_contents.ensures.few;
@@ -161,14 +161,14 @@ returns-clause-kept g c =
       origin_low = (origin_in c.args.label.origin c.requires.origin).0;
       origin_high = (origin_in c.args.label.origin c.requires.origin).1;
       label_long = c.requires.long;
-      directory_shape = walked_shape c.args.bsize c.in_ok-listing.listing.directory.blocks _ c.in_ok-listing.listing.walked c.tree_held.ensures l.leaves l.small.0
+      directory_shape = walked_shape c.args.bsize c.in_ok-listing.listing.directory.blocks _ c.in_ok-listing.listing.walked refl l.leaves l.small.0
           (subst (λ (q : Place). length c.in_ok-listing.listing.walked.pointers.items ≡ pointer_count (q.bsize / 4) c.in_ok-listing.listing.directory.blocks) place l.pointers);
-      directory_is = ap (λ (t : HeldTree). length t.leaves) c.tree_held.ensures ∙ (l.leaves.1
+      directory_is = (l.leaves.1
           ∙ (subst (λ (q : Place). c.in_ok-listing.listing.directory.blocks ≡ directory_count q.bsize (length c.in_ok-listing.listing.entries.items)) place l.counts.0
           ∙ ap (directory_count c.args.bsize) (sym files)));
-      map_is = ap (λ (t : HeldTree). length t.leaves) c.tree_held-2.ensures ∙ (t.map.0
+      map_is = ap (λ (t : HeldTree). length t.leaves) c.tree_held.ensures ∙ (t.map.0
           ∙ subst (λ (q : Place). c.in_ok-listing.listing.map.blocks ≡ up (up q.total 8) q.bsize) place l.counts.1);
-      map_shape = walked_shape c.args.bsize c.in_ok-listing.listing.map.blocks _ c.in-Ok.trees.map c.tree_held-2.ensures (l.map_shape.0, t.map.0) l.small.1
+      map_shape = walked_shape c.args.bsize c.in_ok-listing.listing.map.blocks _ c.in-Ok.trees.map c.tree_held.ensures (l.map_shape.0, t.map.0) l.small.1
           (subst (λ (q : Place). length c.in-Ok.trees.map.pointers.items ≡ pointer_count (q.bsize / 4) c.in_ok-listing.listing.map.blocks) place t.pointers);
       bits_are = c.in-Ok-read_marks.ensures.count ∙ ap (λ (q : Place). q.total) place;
       few = c.in-Ok-read_contents.ensures.few;

@@ -13,6 +13,7 @@ use Rattle.cms_edf.specs.declared.doubt.Doubt.{Doubt}
 use Rattle.cms_edf.specs.declared.doubt.Doubt.TheVariants.{Either}
 use Rattle.cms_edf.specs.declared.step.Step.{Step}
 use Rattle.cms_edf.specs.declared.step.Step.TheVariants as step
+use Rattle.cms_edf.proofs.GoingOn.{edit_goes_on}
 use Rattle.cms_edf.proofs.update.carry_out.Given as given
 use Rattle.cms_edf.proofs.update.carry_out.Goals as goal
 use Rattle.cms_edf.proofs.update.carry_out.Goals.{After-carry_edit}
@@ -137,3 +138,10 @@ carry_edit-requires-clause-blocks g c = λ j told.
     let same = sym c.plan.view_is ∙ c.in-Edit.is in
     edit_blocks j.units c.args.held.now.volume p.change p.stamp c.in-Edit.edit _ c.in-Edit.systems _ c.in-Edit.edit-is c.in-Edit.systems-is (subst (IsPlanFor c.args.held.now.volume p.change p.stamp) same p.is)
     (c.requires.blocks j told)
+
+pub carry_edit-requires-clause-goes : goal.carry_edit-requires-clause-goes
+carry_edit-requires-clause-goes g c =
+    let v = c.args.held.now.volume in
+    let p = c.requires.plan in
+    let same = sym c.plan.view_is ∙ c.in-Edit.is in
+    edit_goes_on v p.change p.stamp c.in-Edit.edit c.in-Edit.systems _ c.in-Edit.systems-is (subst (IsPlanFor v p.change p.stamp) same p.is)

@@ -1,11 +1,13 @@
-use Rattle.std.proofs.Common.{ℕ, ap, sym, refl, subst, length, Ok, Err}
+use Rattle.std.proofs.Common.{ℕ, List, ◌∙◌, ap, sym, refl, subst, length, Ok, Err}
 use Rattle.cms_journal.specs.Journal.{HasBlocks, IsWritable}
 use Rattle.cms_held.specs.HeldVolumes.{Held}
 use Rattle.cms_edf.specs.Doubts.{UpdatesSystems}
+use Rattle.cms_edf.specs.NewDirectories.{GoesOn, directory_in}
 use Rattle.cms_edf.proofs.held.Held.carry_edit.Goals as goal
 
 pub carry_out-requires : goal.carry_out-requires
 carry_out-requires g c = record {
+  goes = subst (λ (l : List ℕ). GoesOn l (directory_in c.args.systems)) (sym (c.deref.ensures.value ∙ ap (λ (h : Held). h.volume.directory.leaves) c.self.view_is)) c.requires.goes;
   may = record {
     blocks = λ j told. subst (λ (u : ℕ). HasBlocks j.units u c.args.systems.label.blocks (length c.args.systems.label_bytes))
         (sym (ap (λ (h : Held). h.volume.unit) c.self.view_is)) (c.requires.blocks j told);
