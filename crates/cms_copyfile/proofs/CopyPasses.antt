@@ -143,7 +143,7 @@ record AtStart (start : Told) (P : Journal → Type 0) : Type 0 where
   told : start ≡ Some journal
   holds : P journal
 
-start_told : (start now' : Told) (disk : Disk) (u : ℕ) (m : Minidisk) (k : Journal) → now' ≡ Some k → WritesAside start now' disk u m → (j : Journal) × (start ≡ Some j)
+pub start_told : (start now' : Told) (disk : Disk) (u : ℕ) (m : Minidisk) (k : Journal) → now' ≡ Some k → WritesAside start now' disk u m → (j : Journal) × (start ≡ Some j)
 start_told (Some j) now' disk u m k told aside = (j, refl)
 start_told None now' disk u m k told aside = let e : None ≡ Some k = sym (plus-none aside.events) ∙ (sym aside.told ∙ told) in absurd (cc e)
 

@@ -2,6 +2,7 @@ pub mod Beside
 pub mod Measured
 pub mod Passes
 pub mod CopyPasses
+pub mod RunPasses
 pub mod ReadAside
 pub mod FilesCopied
 pub mod InputErased

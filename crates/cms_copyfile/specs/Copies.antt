@@ -1,5 +1,5 @@
 -- The second pass over a file that is copied: its records are read again, and their copies are put in a draft.
-use Rattle.std.specs.Prelude.{◌≡◌, ◌⊎◌, ℕ, ◌-◌, true, List, [], ◌∷◌, ◌++◌, drop, length, map, take, Some, Result, Ok, Err, ⊤}
+use Rattle.std.specs.Prelude.{◌≡◌, ◌⊎◌, ℕ, ◌+◌, ◌-◌, ◌<◌, ◌≤◌, true, List, [], ◌∷◌, ◌++◌, drop, length, map, take, Some, Result, Ok, Err, ⊤}
 use Rattle.cms_journal.specs.Journal.{Journal}
 use Rattle.cms_journal.specs.Told.{Told}
 use Rattle.cms_fields.specs.declared.time.Stamp.{Stamp}
@@ -9,7 +9,9 @@ use Rattle.cms_model.specs.Changes.{Change}
 use Rattle.cms_model.specs.LawsUpdates.{now}
 use Rattle.cms_model.specs.Minidisks.{Minidisk}
 use Rattle.cms_model.specs.Settled.{Agree}
-use Rattle.cms_disk.specs.Cursors.{HasLeft, Cursor, text_of}
+use Rattle.cms_names.specs.declared.name.Format.TheVariants.{F}
+use Rattle.cms_held.specs.declared.shape.DraftShape.{DraftShape}
+use Rattle.cms_disk.specs.Cursors.{AreAhead, HasLeft, Cursor, text_of}
 use Rattle.cms_disk.specs.Disks.{Accessed, IsMinidisk}
 use Rattle.cms_disk.specs.Drafts.{GoesOn, IsGivenUp, WritesAside}
 use Rattle.cms_copyfile.specs.Outputs.{copies_in}
@@ -66,6 +68,31 @@ pub record HasLast (start : Told) (unit : ℕ) (c : Cursor) (records : List (Lis
 -- no read failed: there was none, or the last one read a record
 abbrev pub ReadsWell : Told → Cursor → Cursor → List (List ℕ) → Type 0
 ReadsWell start first c records = (c ≡ first) ⊎ HasLast start first.unit c records
+
+-- ---- records that are put at once
+
+-- each record as long as those of a file of this shape is its own copy, from a place on
+pub record KeepsAll (plan : CopyPlan) (shape : DraftShape) (place : ℕ) : Type 0 where
+  pub fixed : shape.format ≡ F
+  pub past : plan.skipped ≤ place
+  pub keeps : (text : List ℕ) → length text ≡ shape.length → copied plan.style text ≡ text
+
+-- so many records from a place on are put at once: each is its own copy, they lie whole in the block that was read last, and they aren't
+-- the last that are left, nor that are wanted
+pub record IsRun (plan : CopyPlan) (d : Draft) (c : Cursor) (place count : ℕ) : Type 0 where
+  pub all : KeepsAll plan d.writer.shape place
+  pub ahead : AreAhead c d.writer.shape.length count
+  pub wanted : place + count < plan.wanted
+  pub more : count < c.left
+  pub fewer : d.writer.put + count ≤ d.writer.shape.count
+
+-- so many records more were copied, or the draft is given up
+abbrev pub PutsAhead : Told → Told → Accessed → Minidisk → Draft → Change → Stamp → CopyPlan
+    → Cursor → Cursor → List (List ℕ) → ℕ → Result ℕ CopyFault → Type 0
+PutsAhead start now d m draft change stamp plan first c records place (Ok n) =
+    CopiedTo start now d m draft change stamp plan first c records (place + n)
+PutsAhead start now d m draft change stamp plan first c records place (Err e) =
+    IsGivenUp start now d m change
 
 -- ---- what it comes to
 

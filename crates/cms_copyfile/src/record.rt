@@ -49,11 +49,12 @@ impl Fit {
 }
 
 impl RecordStyle {
-    /// Whether a record is its own copy.
-    pub fn keeps(&self, text: &[u8]) -> bool
-        ensures { result ≡ true → spec.copied self.now text.now ≡ text.now }
+    /// Whether each record of so many bytes is its own copy.
+    pub fn keeps(&self, size: usize) -> bool
+        ensures { result ≡ true → (text : List ℕ) → length text ≡ size
+            → spec.copied self.now text ≡ text }
     {
-        self.fold.is_none() && !self.truncates && self.fit.keeps(text.len())
+        self.fold.is_none() && !self.truncates && self.fit.keeps(size)
     }
 }
 

@@ -73,11 +73,11 @@ draft_high v d some n there =
     (all_in (λ k. (6 ≤ k) × (k ≤ v.label.blocks)) (blocks_in (tree_of d)) some.within n (own_among (w.bsize / w.psize) n w.tree.leaves w.tree.pointers w.kept there)).0
 
 -- what a draft adds is written beside the minidisk, which stands
-record Written (old new : Told) (d : Accessed) (m : Minidisk) (draft : Draft) (ws : List Write) : Type 0 where
-  stands : Stands new d m
-  aside : WritesAside old new d.volume.disk d.volume.unit m
+pub record Written (old new : Told) (d : Accessed) (m : Minidisk) (draft : Draft) (ws : List Write) : Type 0 where
+  pub stands : Stands new d m
+  pub aside : WritesAside old new d.volume.disk d.volume.unit m
 
-written_aside : (j : Journal) (old new : Told) (d : Accessed) (m : Minidisk) (draft : Draft) → old ≡ Some j → IsMinidisk j d m → IsReadable j d → IsSomeDraft d.volume draft
+pub written_aside : (j : Journal) (old new : Told) (d : Accessed) (m : Minidisk) (draft : Draft) → old ≡ Some j → IsMinidisk j d m → IsReadable j d → IsSomeDraft d.volume draft
     → (own : AddsOwnBlocks old new draft.writer.writer) → Written old new d m draft own.part
 written_aside j old new d m draft is at has some own =
     let p = some in
@@ -107,7 +107,7 @@ written_aside j old new d m draft is at has some own =
     }
 
 -- as many blocks as these events say, whichever they are
-written_told : (j : Journal) (old new : Told) (d : Accessed) (m : Minidisk) (draft : Draft) (own : AddsOwnBlocks old new draft.writer.writer) (w : Written old new d m draft own.part)
+pub written_told : (j : Journal) (old new : Told) (d : Accessed) (m : Minidisk) (draft : Draft) (own : AddsOwnBlocks old new draft.writer.writer) (w : Written old new d m draft own.part)
     → (es : List Event) → old ≡ Some j → new ≡ plus old es → written_count w.aside.events ≡ written_count es
 written_told j old new d m draft own w es is told =
     written_same j w.aside.events es

@@ -10,10 +10,12 @@ pub mod FilesTold
 pub mod RecordsGathered
 pub mod Gotten
 pub mod Skipped
+pub mod Runs
 pub mod DisksTold
 pub mod Courses
 pub mod Beside
 pub mod DraftSteps
+pub mod RunSteps
 pub mod FewWritten
 pub mod RecordsPut
 pub mod DraftAnswered

@@ -40,7 +40,7 @@ bytes_behind image b (suc q) (n ∷ ns) sized few =
 
 -- ---- records that are passed over
 
-cut_behind : (count left n : ℕ) (bytes : List ℕ) → count ≤ left → drop count (cut left n bytes) ≡ cut (left - count) n (drop (count * n) bytes)
+pub cut_behind : (count left n : ℕ) (bytes : List ℕ) → count ≤ left → drop count (cut left n bytes) ≡ cut (left - count) n (drop (count * n) bytes)
 unfolding cut
 cut_behind zero left n bytes few =
     let all : left - 0 ≡ left = omega arith in

@@ -1,5 +1,6 @@
 -- A file that is read record by record.
-use Rattle.std.specs.Prelude.{◌≡◌, ◌⊎◌, ℕ, ◌+◌, ◌-◌, ◌*◌, ◌/◌, ◌≤◌, ◌<◌, min, Bool, true, false, List, [], ◌∷◌, ◌++◌, length, drop, slice_index, Option, None, Some, IfSome, Result, Ok, Err}
+use Rattle.std.specs.Prelude.{◌≡◌, ◌⊎◌, ℕ, ◌+◌, ◌-◌, ◌*◌, ◌/◌, ◌≤◌, ◌<◌, min, Bool, true, false, List, [], ◌∷◌, ◌++◌, length, take, drop, slice_index, All, Option, None, Some, IfSome, Result, Ok, Err}
+use Rattle.std.specs.List.{concat}
 use Rattle.cms_fields.specs.Limits.{most_bytes, longest_record}
 use Rattle.cms_names.specs.declared.name.Format.{Format}
 use Rattle.cms_names.specs.declared.name.Format.TheVariants.{F, V}
@@ -178,3 +179,18 @@ pub record IsUnread (c : Cursor) : Type 0 where
 -- the data block in which the record behind so many of a length begins, of so many blocks of a size
 abbrev pub block_behind : ℕ → ℕ → ℕ → ℕ → ℕ
 block_behind count size bsize blocks = min blocks (count * size / bsize)
+
+-- ---- records that are taken at once
+
+-- so many of the records that come next lie whole in the block that was read last: all have this length, and none is begun
+pub record AreAhead (c : Cursor) (size count : ℕ) : Type 0 where
+  pub fixed : c.begun.fixed ≡ Some size
+  pub between : bytes_so_far c.begun ≡ []
+  pub few : count ≤ c.left
+  pub room : c.from + count * size ≤ c.bsize
+
+-- these bytes are the first so many of the records, in a row, each of this length
+pub record AreRun (size count : ℕ) (records : List (List ℕ)) (bytes : List ℕ) : Type 0 where
+  pub few : count ≤ length records
+  pub bytes_are : bytes ≡ concat (take count records)
+  pub each : All (λ text. length text ≡ size) (take count records)

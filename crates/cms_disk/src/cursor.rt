@@ -6,7 +6,7 @@ ghost use Rattle.cms_fields.specs.Limits.{most_bytes, longest_record};
 ghost use Rattle.cms_names.specs.declared.name.Format.TheVariants.{F};
 ghost use Rattle.cms_model.specs.Trees.{Image, image_of};
 ghost use Rattle.cms_edf.specs.OpeningSteps.{OfImage};
-ghost use Rattle.cms_disk.specs.Cursors.{AreOn, IsFirst, HoldsLittle, HasLeft, HandsOut, Gives, SameFile, IsNeeded, IsShort, IsUnread, TextFits, Waits, WaitsFor, block_behind, text_of};
+ghost use Rattle.cms_disk.specs.Cursors.{AreAhead, AreOn, AreRun, IsFirst, HoldsLittle, HasLeft, HandsOut, Gives, SameFile, IsNeeded, IsShort, IsUnread, TextFits, Waits, WaitsFor, block_behind, text_of};
 ghost use Rattle.cms_disk.specs.declared.fault.DiskFault.TheVariants.{Device, Altered, Memory};
 ghost use Rattle.cms_world.specs.Seen.{OnlyReads, seen};
 
@@ -145,6 +145,51 @@ impl Cursor {
         ensures { result.now ≡ text_of self.now }
     {
         self.begun.text()
+    }
+
+    /// How many records are left to hand out.
+    pub fn left(&self) -> u32
+        ensures { result ≡ self.now.left }
+    {
+        self.left
+    }
+
+    /// How many of the records that come next lie whole in the block that was read last, at most so many: none where not all have this
+    /// length, or one of them is begun. Nothing is read.
+    pub fn ahead(&self, size: u32, most: u32) -> u32
+        ensures few { result ≤ most }
+        ensures ahead { 1 ≤ result → AreAhead self.now size result }
+        ensures all { (count : ℕ) → count ≤ most → AreAhead self.now size count
+            → count ≤ result }
+    {
+        if !self.begun.is_between(size) {
+            return 0;
+        }
+        let room = self.bsize.bytes() - self.from as u32;
+        (room / size).min(self.left).min(most)
+    }
+
+    /// The bytes of so many records that `ahead` told of, in a row.
+    pub fn run(&self, size: u32, count: u32) -> &[u8]
+        requires { AreAhead self.now size count }
+        ensures { (image : Image) (records : List (List ℕ)) → HasLeft image self.now records
+            → AreRun size count records result.now }
+    {
+        let bytes = count as usize * size as usize;
+        &self.block[self.from..self.from + bytes]
+    }
+
+    /// Passes over so many records that `ahead` told of.
+    pub fn pass(&mut self, size: u32, count: u32)
+        requires { AreAhead self.old size count }
+        ensures records { (image : Image) (records : List (List ℕ)) → HasLeft image self.old records
+            → HasLeft image self.new (drop count records) }
+        ensures left { self.new.left + count ≡ self.old.left }
+        ensures held { HoldsLittle self.new }
+        ensures file { SameFile self.old self.new }
+    {
+        self.from += count as usize * size as usize;
+        self.left -= count;
     }
 
     // Takes bytes of the block that was read last, until a record is whole or the block ends.

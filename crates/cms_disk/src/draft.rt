@@ -1,6 +1,8 @@
 // Files that are drafted for a minidisk.
 ghost use Rattle.std.specs.Prelude.{◌≡◌, ◌⊎◌, ◌+◌, ◌<◌, ◌≤◌, ◌++◌, ◌∷◌, [], ℕ, List, true, false, None, Some, Err, length, IsSome, IfOk, IfErr, OnOk};
+ghost use Rattle.std.specs.List.{concat};
 ghost use Rattle.std.specs.Option.{ForSome};
+ghost use Rattle.cms_names.specs.declared.name.Format.TheVariants.{F};
 ghost use Rattle.cms_journal.specs.Journal.{IsWritable};
 ghost use Rattle.cms_journal.specs.Told.{Told};
 ghost use Rattle.cms_world.specs.Seen.{ChangesUnits, OnlyReads, seen};
@@ -236,5 +238,37 @@ pub fn put_record<W: World>(world: &mut W, draft: &mut Draft, text: &[u8]) -> Re
     match draft.put(world, text) {
         Ok(()) => Ok(()),
         Err(Failed) => Err(DiskFault::Device),
+    }
+}
+
+/// Puts records that come next in a draft at F, where all have one length: their bytes in a row. It takes no memory.
+///
+/// `Device` says that the device failed; the draft is of no more use then, and the minidisk is as before.
+pub fn put_run<W: World>(
+    world: &mut W,
+    draft: &mut Draft,
+    bytes: &[u8],
+    count: u32,
+) -> Result<(), DiskFault>
+    requires fixed { draft.old.writer.shape.format ≡ F }
+    requires fewer { draft.old.writer.put + count ≤ draft.old.writer.shape.count }
+    requires room { came draft.old.writer.writer + length bytes.now
+        ≤ draft.old.writer.writer.size }
+    requires ready { ForSome (W.told world.old) (λ j. CanWrite j.units draft.old.writer.writer) }
+    ensures puts { (start : Told) (d : Accessed) (m : minidisks.Minidisk) (change : model.Change)
+        (stamp : stamps.Stamp)
+        (done run more : List (List ℕ)) → length run ≡ count → bytes.now ≡ concat run
+        → GoesOn start (W.told world.old) d m draft.old change stamp done (run ++ more)
+        → PutsRecord start (W.told world.new) d m draft.new change stamp
+        (done ++ run) more result }
+    ensures same { IsSameDraft draft.old draft.new }
+    ensures still { ForSome (W.told world.new) (λ j. CanWrite j.units draft.new.writer.writer) }
+    ensures fault { IfErr result (λ e. e ≡ Device) }
+    ensures changes { ChangesUnits (seen W.World world.old)
+        (seen W.World world.new) IsDevices result }
+{
+    match draft.put_run(world, bytes, count) {
+        Ok(()) => Ok(()),
+        Err(_) => Err(DiskFault::Device),
     }
 }

@@ -15,7 +15,7 @@ mod unit;
 
 pub use cms_edf::{Draft, DraftShape, FileData, FileInfo, OpenFault, Space, Stored};
 pub use cursor::Cursor;
-pub use draft::put_record;
+pub use draft::{put_record, put_run};
 pub use fault::{AccessFault, DiskFault};
 pub use laws::disk_laws;
 pub use minidisk::Minidisk;

@@ -38,6 +38,7 @@ pub mod SystemsWritten
 pub mod DraftPlanned
 pub mod GrownOnce
 pub mod DraftPut
+pub mod RunPut
 pub mod FilesPut
 pub mod Committed
 pub mod GrownDraft

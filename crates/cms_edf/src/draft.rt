@@ -11,7 +11,9 @@ ghost use Rattle.cms_held.specs.Puts.{count_put, count_with, limit_put, made_wit
 ghost use Rattle.cms_held.specs.Renewals.{entries_held};
 ghost use Rattle.cms_held.specs.Written.{CanWrite};
 ghost use Rattle.cms_edf.specs.FileDrafts.{CanDraft, DraftStands, GivenAt, IsSomeDraft, StandsThen, StaysHeld, IsDraftFor, IsPlaceIn, IsRefused, list_with, entry_for, tree_of};
+ghost use Rattle.std.specs.List.{concat};
 ghost use Rattle.std.specs.Option.{ForSome};
+ghost use Rattle.cms_names.specs.declared.name.Format.TheVariants.{F};
 ghost use Rattle.cms_world.specs.Seen.{OnUnits, seen};
 ghost use Rattle.cms_journal.specs.Journal.{Journal};
 ghost use Rattle.cms_model.specs.Minidisks.{Minidisk};
@@ -19,7 +21,7 @@ ghost use Rattle.cms_model.specs.Records.{Fits, stored};
 ghost use Rattle.cms_held.specs.Drafts.{Front};
 ghost use Rattle.cms_held.specs.MinidiskUpdates.{IsHeldMinidisk};
 ghost use Rattle.cms_held.specs.BlockWriters.{AddsOwnBlocks, CanWrite as CanWriteBlocks, IsSame, came};
-ghost use Rattle.cms_held.specs.FileWriters.{Drafts, IsDrafting, IsFresh, Puts};
+ghost use Rattle.cms_held.specs.FileWriters.{Drafts, IsDrafting, IsFresh, Puts, PutsRun};
 ghost use Rattle.cms_model.specs.Minidisks.{same_name};
 ghost use Rattle.cms_held.specs.HeldVolumes.{HeldFile, HeldVolume, names_in};
 ghost use Rattle.cms_edf.specs.Allotments.{IsAllottedFor, given_back, numbers_made};
@@ -384,5 +386,57 @@ impl Draft {
         ensures counts { OnUnits (seen W.World world.old) (seen W.World world.new) result }
     {
         self.writer.put(world, text)
+    }
+
+    /// Puts records that come next, at F, where all have one length: their bytes in a row. It writes as `put` does.
+    ///
+    /// It takes no memory. `Failed` where the device did; the draft is of no more use then.
+    pub fn put_run<W: World>(
+        &mut self,
+        world: &mut W,
+        bytes: &[u8],
+        count: u32,
+    ) -> Result<(), Failed>
+        requires fixed { self.old.writer.shape.format ≡ F }
+        requires fewer { self.old.writer.put + count ≤ self.old.writer.shape.count }
+        requires room { came self.old.writer.writer + length bytes.now
+            ≤ self.old.writer.writer.size }
+        requires ready { ForSome (W.told world.old)
+            (λ j. CanWriteBlocks j.units self.old.writer.writer) }
+        ensures puts { (front : Front) (records run more : List (List ℕ)) → length run ≡ count
+            → bytes.now ≡ concat run → Drafts self.old.writer front records (run ++ more)
+            → PutsRun (W.told world.old)
+            (W.told world.new) self.old.writer self.new.writer front records run more result }
+        ensures own { AddsOwnBlocks (W.told world.old) (W.told world.new) self.old.writer.writer }
+        ensures stands { (j : Journal) (v : HeldVolume) (m : Minidisk) (front : Front)
+            (records run more : List (List ℕ)) → length run ≡ count → bytes.now ≡ concat run
+            → W.told world.old ≡ Some j
+            → IsHeldMinidisk j v m → IsSomeDraft v self.old
+            → Drafts self.old.writer front records (run ++ more)
+            → DraftStands j self.old.writer front (records ++ (run ++ more))
+            → StandsThen (W.told world.new) self.old.writer self.new.writer front
+            (records ++ (run ++ more)) result }
+        ensures front { (j : Journal) (v : HeldVolume) (m : Minidisk) (name : names.Name)
+            (f : HeldFile) (shape : shapes.DraftShape)
+            (stamp : stamps.Stamp) (front : Front) → W.told world.old ≡ Some j
+            → IsHeldMinidisk j v m
+            → IsMoreFor v name f shape stamp self.old → IsFrontOf j v f (tree_of self.old) front
+            → ForSome (W.told world.new) (λ k. IsFrontOf k v f (tree_of self.old) front) }
+        ensures all { OnOk result (came self.new.writer.writer
+            ≡ came self.old.writer.writer + length bytes.now) }
+        ensures same { IsSame self.old.writer.writer self.new.writer.writer }
+        ensures draft { self.new ≡ record self.old {
+          writer = record self.old.writer {
+            put = self.old.writer.put + count;
+            writer = self.new.writer.writer;
+          };
+        } }
+        ensures kept { IsDrafting self.old.writer }
+        ensures is { IsDrafting self.new.writer }
+        ensures still { ForSome (W.told world.new)
+            (λ j. CanWriteBlocks j.units self.new.writer.writer) }
+        ensures counts { OnUnits (seen W.World world.old) (seen W.World world.new) result }
+    {
+        self.writer.put_run(world, bytes, count)
     }
 }

@@ -29,7 +29,7 @@ use Rattle.cms_held.proofs.DraftOwn.{own_all}
 use Rattle.cms_tree.proofs.ClimbBlocks.{some_fan}
 use Rattle.cms_held.proofs.GrownTrees.{next_multiple}
 use Rattle.cms_held.specs.BlockWriters.{Finishes, its_blocks, IsNewWriter, IsWriter, IsSame, came, AreMarked, ComesNext, Stops, Streams, Writes, Wrote, mark_on, with_start}
-use Rattle.cms_held.specs.FileWriters.{FileWriter, Drafts, IsDrafting, IsFresh, IsMarkedSo, Puts, marks_in, marks_of}
+use Rattle.cms_held.specs.FileWriters.{FileWriter, Drafts, IsDrafting, IsFresh, IsMarkedSo, Puts, PutsRun, marks_in, marks_of}
 use Rattle.cms_held.specs.declared.block_writer.BlockWriter.{BlockWriter}
 use Rattle.cms_held.proofs.BlockWritten.{block_there, few_leaves, mark_here, mark_behind, mark_later, marked_later, next_later, same_twice, stops_on, wrote_none, wrote_on}
 use Rattle.cms_held.proofs.DraftMarks.{Begins, mark_end, mark_is, mark_whole, place_none, place_past, started_place}
@@ -43,10 +43,10 @@ on_append format front records more =
 
 -- ---- the bytes that come next
 
-next_fixed : (at : ℕ) (front : Front) (records more : List (List ℕ)) (text : List ℕ) → at ≡ length (stored_on F front records) → ComesNext at text (stored_on F front (records ++ (text ∷ more)))
-next_fixed at front records more text is = record {
+next_fixed : (at : ℕ) (front : Front) (records run more : List (List ℕ)) → at ≡ length (stored_on F front records) → ComesNext at (stored F run) (stored_on F front (records ++ (run ++ more)))
+next_fixed at front records run more is = record {
   more = stored F more;
-  is = ap (drop at) (on_append F front records (text ∷ more)) ∙ drop_at (stored_on F front records) (text ++ stored F more) at (sym is);
+  is = ap (drop at) (on_append F front records (run ++ more)) ∙ (drop_at (stored_on F front records) (stored F (run ++ more)) at (sym is) ∙ stored_append F run more);
 }
 
 next_stored : (at : ℕ) (front : Front) (records more : List (List ℕ)) (text : List ℕ) → at ≡ length (stored_on V front records)
@@ -131,11 +131,16 @@ begun_marked w front records more text is mark begins at unfilled room wide k lo
 
 -- ---- a record was put
 
--- how long a record is as it is stored
+-- how long records are as they are stored
+pub stored_run : (format : Format) (front : Front) (records run : List (List ℕ)) (at : ℕ) → at ≡ length (stored_on format front records)
+    → at + length (stored format run) ≡ length (stored_on format front (records ++ run))
+stored_run format front records run at is = ap (λ (n : ℕ). n + length (stored format run)) is
+    ∙ sym (length-append (stored_on format front records) (stored format run)) ∙ ap (λ (l : List ℕ). length l) (sym (on_append format front records run))
+
+-- and one of them
 pub stored_long : (format : Format) (front : Front) (records : List (List ℕ)) (text : List ℕ) (at : ℕ) → at ≡ length (stored_on format front records)
     → at + length (stored format (text ∷ [])) ≡ length (stored_on format front (records ++ text ∷ []))
-stored_long format front records text at is = ap (λ (n : ℕ). n + length (stored format (text ∷ []))) is
-    ∙ sym (length-append (stored_on format front records) (stored format (text ∷ []))) ∙ ap (λ (l : List ℕ). length l) (sym (on_append format front records (text ∷ [])))
+stored_long format front records text at is = stored_run format front records (text ∷ []) at is
 
 pub long_fixed : (text : List ℕ) → length (stored F (text ∷ [])) ≡ length text
 long_fixed text = ap (λ (l : List ℕ). length l) (append-nil text)
@@ -143,46 +148,48 @@ long_fixed text = ap (λ (l : List ℕ). length l) (append-nil text)
 pub long_varying : (text : List ℕ) → length (stored V (text ∷ [])) ≡ 2 + length text
 long_varying text = ap (λ (l : List ℕ). length l) (append-nil (with_length text)) ∙ length-with_length text
 
-regroup : (records more : List (List ℕ)) (text : List ℕ) → (records ++ text ∷ []) ++ more ≡ records ++ (text ∷ more)
-regroup records more text = append_assoc records (text ∷ []) more
+regroup : (records run more : List (List ℕ)) → (records ++ run) ++ more ≡ records ++ (run ++ more)
+regroup records run more = append_assoc records run more
 
-put_done : (old new : Told) (d : FileWriter) (w : BlockWriter) (front : Front) (records more : List (List ℕ)) (text : List ℕ) (x : ⊤) → Drafts d front records (text ∷ more) → IsSame d.writer w
-    → came w ≡ came d.writer + length (stored d.shape.format (text ∷ [])) → IsMarkedSo d.shape.format w front (records ++ text ∷ [])
-    → Wrote old new d.writer w front.nodes (stored_on d.shape.format front (records ++ (text ∷ more))) (marks_in d front (records ++ (text ∷ more)))
-    → Puts old new d (record d { put = d.put + 1; writer = w }) front records text more (Ok x)
-put_done old new d w front records more text x h same came_is mark wrote = (
+put_done : (old new : Told) (d : FileWriter) (w : BlockWriter) (front : Front) (records run more : List (List ℕ)) (x : ⊤) → Drafts d front records (run ++ more) → IsSame d.writer w
+    → came w ≡ came d.writer + length (stored d.shape.format run) → IsMarkedSo d.shape.format w front (records ++ run)
+    → Wrote old new d.writer w front.nodes (stored_on d.shape.format front (records ++ (run ++ more))) (marks_in d front (records ++ (run ++ more)))
+    → PutsRun old new d (record d { put = d.put + length run; writer = w }) front records run more (Ok x)
+put_done old new d w front records run more x h same came_is mark wrote = (
   wrote,
   record {
-    put = let p = h.put in let long = length-append records (text ∷ []) in omega arith;
-    count = h.count ∙ ap (λ (l : List (List ℕ)). front.count + length l) (sym (regroup records more text));
-    streams = subst (λ (l : List (List ℕ)). Streams w front.nodes (stored_on d.shape.format front l) (marks_of d.shape.format w.bsize front l (length w.tree.leaves))) (sym (regroup records more text))
-        (subst (λ (m : List Mark). Streams w front.nodes (stored_on d.shape.format front (records ++ (text ∷ more))) m) marks wrote.streams);
-    came_is = came_is ∙ stored_long d.shape.format front records text (came d.writer) h.came_is;
+    put = let p = h.put in let long = length-append records run in omega arith;
+    count = h.count ∙ ap (λ (l : List (List ℕ)). front.count + length l) (sym (regroup records run more));
+    streams = subst (λ (l : List (List ℕ)). Streams w front.nodes (stored_on d.shape.format front l) (marks_of d.shape.format w.bsize front l (length w.tree.leaves))) (sym (regroup records run more))
+        (subst (λ (m : List Mark). Streams w front.nodes (stored_on d.shape.format front (records ++ (run ++ more))) m) marks wrote.streams);
+    came_is = came_is ∙ stored_run d.shape.format front records run (came d.writer) h.came_is;
     begins = subst (λ (b : ℕ). Begins b front) (sym same.bsize) h.begins;
     mark = mark;
-    each = subst (All (Fits d.shape.format d.shape.length)) (sym (regroup records more text)) h.each;
+    each = subst (All (Fits d.shape.format d.shape.length)) (sym (regroup records run more)) h.each;
   },
 )
   where
-    marks : marks_in d front (records ++ (text ∷ more)) ≡ marks_of d.shape.format w.bsize front (records ++ (text ∷ more)) (length w.tree.leaves)
+    marks : marks_in d front (records ++ (run ++ more)) ≡ marks_of d.shape.format w.bsize front (records ++ (run ++ more)) (length w.tree.leaves)
     marks = rw (same.bsize, same.tree) refl
 
 -- ---- at F
 
-pub put_fixed : (old new : Told) (d : FileWriter) (w : BlockWriter) (front : Front) (records more : List (List ℕ)) (text : List ℕ) (r : Result ⊤ Failed) → d.shape.format ≡ F → IsDrafting d
-    → Drafts d front records (text ∷ more)
-    → IsSame d.writer w → OnOk r (came w ≡ came d.writer + length text)
-    → ((es : List Kept) (bytes : List ℕ) (marks : List Mark) → Streams d.writer es bytes marks → ComesNext (came d.writer) text bytes → AreMarked d.writer (came d.writer + length text) marks
-    → Writes old new d.writer w es bytes marks (came d.writer + length text) r)
-    → Puts old new d (record d { put = d.put + 1; writer = w }) front records text more r
-put_fixed old new d w front records more text r is i h same all writes =
-    answer r all (writes front.nodes (stored_on d.shape.format front (records ++ (text ∷ more))) (marks_in d front (records ++ (text ∷ more))) h.streams next (λ wide. absurd (none wide)))
+-- records that come next
+pub run_fixed : (old new : Told) (d : FileWriter) (w : BlockWriter) (front : Front) (records run more : List (List ℕ)) (bytes : List ℕ) (r : Result ⊤ Failed) → d.shape.format ≡ F → IsDrafting d
+    → Drafts d front records (run ++ more) → bytes ≡ stored F run
+    → IsSame d.writer w → OnOk r (came w ≡ came d.writer + length bytes)
+    → ((es : List Kept) (whole : List ℕ) (marks : List Mark) → Streams d.writer es whole marks → ComesNext (came d.writer) bytes whole → AreMarked d.writer (came d.writer + length bytes) marks
+    → Writes old new d.writer w es whole marks (came d.writer + length bytes) r)
+    → PutsRun old new d (record d { put = d.put + length run; writer = w }) front records run more r
+run_fixed old new d w front records run more bytes r is i h are same all writes =
+    answer r all (writes front.nodes (stored_on d.shape.format front (records ++ (run ++ more))) (marks_in d front (records ++ (run ++ more))) h.streams next (λ wide. absurd (none wide)))
   where
     at : came d.writer ≡ length (stored_on F front records)
     at = h.came_is ∙ ap (λ (f : Format). length (stored_on f front records)) is
 
-    next : ComesNext (came d.writer) text (stored_on d.shape.format front (records ++ (text ∷ more)))
-    next = subst (λ (f : Format). ComesNext (came d.writer) text (stored_on f front (records ++ (text ∷ more)))) (sym is) (next_fixed (came d.writer) front records more text at)
+    next : ComesNext (came d.writer) bytes (stored_on d.shape.format front (records ++ (run ++ more)))
+    next = subst (λ (f : Format). ComesNext (came d.writer) bytes (stored_on f front (records ++ (run ++ more)))) (sym is)
+        (subst (λ (l : List ℕ). ComesNext (came d.writer) l (stored_on F front (records ++ (run ++ more)))) (sym are) (next_fixed (came d.writer) front records run more at))
 
     four : d.writer.psize ≡ 4
     four = i.pointer ∙ ap pointer_size is
@@ -190,18 +197,27 @@ put_fixed old new d w front records more text r is i h same all writes =
     none : d.writer.psize ≡ 12 → ⊥
     none wide = absurd (omega (arith, four))
 
-    long : length text ≡ length (stored d.shape.format (text ∷ []))
-    long = sym (ap (λ (f : Format). length (stored f (text ∷ []))) is ∙ long_fixed text)
+    long : length bytes ≡ length (stored d.shape.format run)
+    long = ap (λ (l : List ℕ). length l) are ∙ sym (ap (λ (f : Format). length (stored f run)) is)
 
-    answer : (r : Result ⊤ Failed) → OnOk r (came w ≡ came d.writer + length text)
-        → Writes old new d.writer w front.nodes (stored_on d.shape.format front (records ++ (text ∷ more))) (marks_in d front (records ++ (text ∷ more))) (came d.writer + length text) r
-        → Puts old new d (record d { put = d.put + 1; writer = w }) front records text more r
+    answer : (r : Result ⊤ Failed) → OnOk r (came w ≡ came d.writer + length bytes)
+        → Writes old new d.writer w front.nodes (stored_on d.shape.format front (records ++ (run ++ more))) (marks_in d front (records ++ (run ++ more))) (came d.writer + length bytes) r
+        → PutsRun old new d (record d { put = d.put + length run; writer = w }) front records run more r
     answer (Ok x) all wrote =
-        put_done old new d w front records more text x h same (all ∙ ap (λ (n : ℕ). came d.writer + n) long)
-        (subst (λ (f : Format). IsMarkedSo f w front (records ++ text ∷ [])) (sym is) tt) wrote
+        put_done old new d w front records run more x h same (all ∙ ap (λ (n : ℕ). came d.writer + n) long)
+        (subst (λ (f : Format). IsMarkedSo f w front (records ++ run)) (sym is) tt) wrote
     answer (Err e) all stops =
-        subst (Stops old new d.writer front.nodes (stored_on d.shape.format front (records ++ (text ∷ more))) (marks_in d front (records ++ (text ∷ more))))
-        (ap (λ (n : ℕ). came d.writer + n) long ∙ stored_long d.shape.format front records text (came d.writer) h.came_is) stops
+        subst (Stops old new d.writer front.nodes (stored_on d.shape.format front (records ++ (run ++ more))) (marks_in d front (records ++ (run ++ more))))
+        (ap (λ (n : ℕ). came d.writer + n) long ∙ stored_run d.shape.format front records run (came d.writer) h.came_is) stops
+
+-- one of them
+pub put_fixed : (old new : Told) (d : FileWriter) (w : BlockWriter) (front : Front) (records more : List (List ℕ)) (text : List ℕ) (r : Result ⊤ Failed) → d.shape.format ≡ F → IsDrafting d
+    → Drafts d front records (text ∷ more)
+    → IsSame d.writer w → OnOk r (came w ≡ came d.writer + length text)
+    → ((es : List Kept) (bytes : List ℕ) (marks : List Mark) → Streams d.writer es bytes marks → ComesNext (came d.writer) text bytes → AreMarked d.writer (came d.writer + length text) marks
+    → Writes old new d.writer w es bytes marks (came d.writer + length text) r)
+    → Puts old new d (record d { put = d.put + 1; writer = w }) front records text more r
+put_fixed old new d w front records more text r is i h same all writes = run_fixed old new d w front records (text ∷ []) more text r is i h (sym (append-nil text)) same all writes
 
 -- ---- at V
 
@@ -363,7 +379,7 @@ put_varying old mid new d w2 w front records more text size x r p z same all mar
 
     answer : (r : Result ⊤ Failed) → OnOk r (came w ≡ came w2 + length text) → OnOk r (w.mark ≡ mark_on w2 w.whole) → Writes mid new w2 w front.nodes bytes marks (came w2 + length text) r
         → Puts old new d (record d { put = d.put + 1; writer = w }) front records text more r
-    answer (Ok y) all mark more' = put_done old new d w front records more text y p.drafts (same_twice d.writer w2 w both same) (all ∙ upto ∙ long) (so mark)
+    answer (Ok y) all mark more' = put_done old new d w front records (text ∷ []) more y p.drafts (same_twice d.writer w2 w both same) (all ∙ upto ∙ long) (so mark)
         (wrote_on old mid new d.writer w2 w front.nodes bytes marks both wrote more')
     answer (Err e) all mark stops =
         subst (Stops old new d.writer front.nodes bytes marks) (upto ∙ long ∙ stored_long d.shape.format front records text (came d.writer) p.drafts.came_is)

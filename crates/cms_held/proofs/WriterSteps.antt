@@ -175,6 +175,25 @@ drafting_put d w upto i fewer is same unfilled within room last =
       begun = last;
     }
 
+-- and one of which a run was put
+pub drafting_run : (d : FileWriter) (w : BlockWriter) (count upto : ℕ) → IsDrafting d → d.put + count ≤ d.shape.count → IsLater d.writer w upto → upto ≤ d.writer.size
+    → IsDrafting (record { shape = d.shape; put = d.put + count; writer = w })
+drafting_run d w count upto i fewer later room =
+    let size = later.same.size in
+    let last = later.last in
+    let begun = i.begun in
+    let within = later.within in
+    record {
+      writer = later.is;
+      unfilled = later.unfilled;
+      within = omega (arith, within, room, size);
+      size = later.same.size ∙ i.size;
+      pointer = later.same.psize ∙ i.pointer;
+      put_few = fewer;
+      few = i.few;
+      begun = omega (arith, last, begun);
+    }
+
 pub drafting_fixed : (d : FileWriter) (w : BlockWriter) (upto : ℕ) → IsDrafting d → d.put < d.shape.count → IsLater d.writer w upto → upto ≤ d.writer.size
     → IsDrafting (record { shape = d.shape; put = d.put + 1; writer = w })
 drafting_fixed d w upto i fewer later room =

@@ -68,16 +68,23 @@ pub record Drafts (d : FileWriter) (front : Front) (records more : List (List �
   pub mark : IsMarkedSo d.shape.format d.writer front records
   pub each : All (Fits d.shape.format d.shape.length) (records ++ more)
 
--- a record was put: what is written with the data blocks that are whole with it was written, or some of that and it failed
+-- records were put at once: what is written with the data blocks that are whole with them was written, or some of that and it failed
+abbrev pub PutsRun : Told → Told → FileWriter → FileWriter → Front → List (List ℕ) → List (List ℕ)
+    → List (List ℕ) → Result ⊤ Failed → Type 0
+PutsRun old new d d' front records run more (Ok x) =
+    Wrote old new d.writer d'.writer front.nodes
+    (stored_on d.shape.format front (records ++ (run ++ more)))
+    (marks_in d front (records ++ (run ++ more)))
+    × Drafts d' front (records ++ run) more
+PutsRun old new d d' front records run more (Err e) =
+    Stops old new d.writer front.nodes (stored_on d.shape.format front (records ++ (run ++ more)))
+    (marks_in d front (records ++ (run ++ more)))
+    (length (stored_on d.shape.format front (records ++ run)))
+
+-- a record was put
 abbrev pub Puts : Told → Told → FileWriter → FileWriter → Front → List (List ℕ) → List ℕ → List (List ℕ) → Result ⊤ Failed → Type 0
-Puts old new d d' front records text more (Ok x) =
-    Wrote old new d.writer d'.writer front.nodes (stored_on d.shape.format front (records ++ (text ∷ more)))
-    (marks_in d front (records ++ (text ∷ more)))
-    × Drafts d' front (records ++ text ∷ []) more
-Puts old new d d' front records text more (Err e) =
-    Stops old new d.writer front.nodes (stored_on d.shape.format front (records ++ (text ∷ more)))
-    (marks_in d front (records ++ (text ∷ more)))
-    (length (stored_on d.shape.format front (records ++ text ∷ [])))
+Puts old new d d' front records text more r =
+    PutsRun old new d d' front records (text ∷ []) more r
 
 -- these records are those of such a file
 pub record HaveShape (shape : DraftShape) (records : List (List ℕ)) : Type 0 where

@@ -1,16 +1,18 @@
 // A file of which records are put one after another.
-ghost use Rattle.std.specs.Prelude.{◌≡◌, ℕ, List, ◌+◌, ◌<◌, ◌≤◌, ◌∷◌, [], length, IfOk, OnOk};
+ghost use Rattle.std.specs.Prelude.{◌≡◌, ℕ, List, ◌+◌, ◌<◌, ◌≤◌, ◌++◌, ◌∷◌, [], length, IfOk, OnOk};
+ghost use Rattle.std.specs.List.{concat};
 ghost use Rattle.std.specs.Option.{ForSome};
 ghost use Rattle.cms_world.specs.Seen.{OnUnits, seen};
 ghost use Rattle.cms_fields.specs.Entries.{fan_of, pointer_size};
 ghost use Rattle.cms_fields.specs.Limits.{most_bytes, most_records};
 ghost use Rattle.cms_fields.specs.Numbers.{up};
+ghost use Rattle.cms_names.specs.declared.name.Format.TheVariants.{F};
 ghost use Rattle.cms_model.specs.Records.{Fits, stored};
 ghost use Rattle.cms_model.specs.Sizes.{pointer_count};
 ghost use Rattle.cms_held.specs.Drafts.{Front, stored_on};
 ghost use Rattle.cms_held.specs.BegunFiles.{IsBegun, IsContinued, bytes_before};
 ghost use Rattle.cms_held.specs.BlockWriters.{AddsOwnBlocks, CanWrite, Finishes, IsSame, came};
-ghost use Rattle.cms_held.specs.FileWriters.{Drafts, IsDrafting, IsFresh, Puts, marks_in, start_in};
+ghost use Rattle.cms_held.specs.FileWriters.{Drafts, IsDrafting, IsFresh, Puts, PutsRun, marks_in, start_in};
 
 use crate::begun::Begun;
 use crate::block_writer::{BlockWriter, NOWHERE};
@@ -200,6 +202,41 @@ impl FileWriter {
                 }
             }
         }
+    }
+
+    /// Puts records that come next, at F, where all have one length: their bytes in a row. It writes each data block that is whole with
+    /// them, and the pointer blocks that are complete with that.
+    ///
+    /// It takes no memory. `Failed` where the device did; the file is of no more use then.
+    pub fn put_run<W: World>(
+        &mut self,
+        world: &mut W,
+        bytes: &[u8],
+        count: u32,
+    ) -> Result<(), Failed>
+        requires fixed { self.old.shape.format ≡ F }
+        requires fewer { self.old.put + count ≤ self.old.shape.count }
+        requires room { came self.old.writer + length bytes.now ≤ self.old.writer.size }
+        requires ready { ForSome (W.told world.old) (λ j. CanWrite j.units self.old.writer) }
+        ensures puts { (front : Front) (records run more : List (List ℕ)) → length run ≡ count
+            → bytes.now ≡ concat run → Drafts self.old front records (run ++ more)
+            → PutsRun (W.told world.old)
+            (W.told world.new) self.old self.new front records run more result }
+        ensures all { OnOk result (came self.new.writer
+            ≡ came self.old.writer + length bytes.now) }
+        ensures same { IsSame self.old.writer self.new.writer }
+        ensures shape { self.new ≡ record self.old {
+          put = self.old.put + count;
+          writer = self.new.writer;
+        } }
+        ensures own { AddsOwnBlocks (W.told world.old) (W.told world.new) self.old.writer }
+        ensures kept { IsDrafting self.old }
+        ensures is { IsDrafting self.new }
+        ensures still { ForSome (W.told world.new) (λ j. CanWrite j.units self.new.writer) }
+        ensures counts { OnUnits (seen W.World world.old) (seen W.World world.new) result }
+    {
+        self.put += count;
+        self.writer.append(world, bytes)
     }
 
     /// Writes what is left behind the last record: the last data block, with zeros behind its bytes, and the pointer blocks that are

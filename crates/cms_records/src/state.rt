@@ -1,5 +1,5 @@
 // One record after another, of bytes that come in pieces.
-ghost use Rattle.std.specs.Prelude.{◌≡◌, ℕ, ◌+◌, ◌-◌, ◌≤◌, ◌++◌, [], Some, true, false, max, length, vec_capacity, take, drop, IfOk, IfErr, IfSome, OnErr, OnOk, Ok, Err};
+ghost use Rattle.std.specs.Prelude.{◌≡◌, ◌↔◌, ℕ, ◌+◌, ◌-◌, ◌≤◌, ◌++◌, [], Some, true, false, max, length, vec_capacity, take, drop, IfOk, IfErr, IfSome, IsTrue, OnErr, OnOk, Ok, Err};
 ghost use Rattle.cms_text.specs.Bytes.{half};
 ghost use Rattle.cms_fields.specs.Limits.{longest_record, most_bytes};
 ghost use Rattle.cms_records.specs.Pieces.{Takes, record_size, bytes_so_far, next_place, text_in};
@@ -101,6 +101,16 @@ impl RecordState {
         match self.fixed {
             Some(_) => &self.bytes,
             None => after(&self.bytes, 2),
+        }
+    }
+
+    /// Whether all records have this length, and none of them is begun.
+    pub fn is_between(&self, size: u32) -> bool
+        ensures { IsTrue result ↔ ((self.now.fixed ≡ Some size) × (bytes_so_far self.now ≡ [])) }
+    {
+        match self.fixed {
+            Some(fixed) => fixed == size && (self.whole || self.bytes.is_empty()),
+            None => false,
         }
     }
 

@@ -1,4 +1,4 @@
-use Rattle.std.proofs.Common.{◌≡◌, ◌≤◌, List, ℕ, vec_capacity}
+use Rattle.std.proofs.Common.{◌≡◌, ◌-◌, ◌≤◌, List, ℕ, vec_capacity}
 use Rattle.std.specs.Option.{ForSome}
 use Rattle.cms_journal.specs.Journal.{HasBlocks}
 use Rattle.cms_journal.specs.Told.{Grown, Told}
@@ -12,8 +12,8 @@ use Rattle.cms_fields.specs.declared.time.Stamp.{Stamp}
 use Rattle.cms_model.specs.Changes.{Change}
 use Rattle.cms_copyfile.proofs.second_pass.put_copies.Given as goal
 
-abbrev pub invariant-loop-place : goal.invariant-loop-place
-invariant-loop-place g l = record {
+abbrev pub invariant-copies : goal.invariant-copies
+invariant-copies g l = record {
   to : (start : Told) (d : Accessed) (m : Minidisk) (change : Change) (stamp : Stamp) (records : List (List ℕ)) → CopiesFrom start (g.W.World.told l.fn.world) d m l.fn.draft change stamp l.plan l.fn.cursor records
       → CopiedTo start (g.W.World.told l.world) d m l.draft change stamp l.plan l.fn.cursor l.cursor records l.place;
   well : (start : Told) (d : Accessed) (m : Minidisk) (change : Change) (stamp : Stamp) (records : List (List ℕ)) → CopiesFrom start (g.W.World.told l.fn.world) d m l.fn.draft change stamp l.plan l.fn.cursor records
@@ -26,4 +26,8 @@ invariant-loop-place g l = record {
   grown : Grown (g.W.World.told l.fn.world) (g.W.World.told l.world);
   faults : g.W.World.faults l.fn.world ≤ g.W.World.faults l.world;
   edges : g.W.World.edges l.world ≡ g.W.World.edges l.fn.world;
+  within : l.place ≤ l.plan.wanted;
 }
+
+abbrev pub decreases-copies : goal.decreases-copies
+decreases-copies g l = l.plan.wanted - l.place

@@ -21,7 +21,7 @@ returns-in-Ok-clause-puts g c = λ start d m change stamp front rest long wanted
     let plan = c.args.plan.now in
     let high : plan.skipped ≤ c.args.place = omega arith in
     let is : c.if-kept.copy.now ≡ copied plan.style c.args.text.now = elim c.if-kept.branch [
-      | then-kept w ↦ rw w.copy-is (sym (c.keeps-kept.ensures w.if-kept.true))
+      | then-kept w ↦ rw w.copy-is (sym (c.keeps-kept.ensures w.if-kept.true c.args.text.now refl))
       | else-kept w ↦ elim c.if-not-kept.branch [
         | then-not-kept v ↦ rw (w.copy-is, w.as_slice-copy.ensures.value, v.buffer-is) v.copy_record.ensures.text
         | else-not-kept v ↦ absurd (differ c.keeps-kept.result w.if-kept.false v.if-not-kept.false)
@@ -37,7 +37,7 @@ returns-in-Altered-clause-puts g c = λ start d m change stamp front rest long w
     let plan = c.args.plan.now in
     let high : plan.skipped ≤ c.args.place = omega arith in
     let is : c.if-kept.copy.now ≡ copied plan.style c.args.text.now = elim c.if-kept.branch [
-      | then-kept w ↦ rw w.copy-is (sym (c.keeps-kept.ensures w.if-kept.true))
+      | then-kept w ↦ rw w.copy-is (sym (c.keeps-kept.ensures w.if-kept.true c.args.text.now refl))
       | else-kept w ↦ elim c.if-not-kept.branch [
         | then-not-kept v ↦ rw (w.copy-is, w.as_slice-copy.ensures.value, v.buffer-is) v.copy_record.ensures.text
         | else-not-kept v ↦ absurd (differ c.keeps-kept.result w.if-kept.false v.if-not-kept.false)
@@ -55,7 +55,7 @@ returns-in_default g c =
     let put = c.in-Err.ensures in
     let high : plan.skipped ≤ c.args.place = omega arith in
     let is : c.if-kept.copy.now ≡ copied plan.style c.args.text.now = elim c.if-kept.branch [
-      | then-kept w ↦ rw w.copy-is (sym (c.keeps-kept.ensures w.if-kept.true))
+      | then-kept w ↦ rw w.copy-is (sym (c.keeps-kept.ensures w.if-kept.true c.args.text.now refl))
       | else-kept w ↦ elim c.if-not-kept.branch [
         | then-not-kept v ↦ rw (w.copy-is, w.as_slice-copy.ensures.value, v.buffer-is) v.copy_record.ensures.text
         | else-not-kept v ↦ absurd (differ c.keeps-kept.result w.if-kept.false v.if-not-kept.false)
