@@ -2,9 +2,17 @@
 use crate::{
     climbs, code_page, fields, files, maps, names, operands, pieces, records, resumes, trees, words,
 };
-use cms_cases::{Subject, try_rows};
-use std::alloc::{AllocError, Global};
+use cms_cases::{Report, Subject, try_rows};
+use std::alloc::Global;
+use std::process::Abort;
 use std::test::Fail;
+
+/// Who is asked for the answers: where there is no memory, or a case can't be made, the test ends.
+#[derive(Drop)]
+pub struct Asked<'a, R: Abort> {
+    pub rt: &'a R,
+    pub alloc: Global,
+}
 
 // Whose cases they are.
 #[derive(Clone, Copy)]
@@ -39,26 +47,34 @@ const ROWS: &[(Cases, &str)] = &[
     (Cases::Operands, operands::ROWS),
 ];
 
-impl Subject for Cases {
-    fn answer(&self, alloc: Global, case: &str) -> Result<String, AllocError> {
-        match self {
-            Cases::CodePage => code_page::answer(alloc, case),
-            Cases::Names => names::answer(alloc, case),
-            Cases::Fields => fields::answer(alloc, case),
-            Cases::Files => files::answer(alloc, case),
-            Cases::Maps => maps::answer(alloc, case),
-            Cases::Records => records::answer(alloc, case),
-            Cases::Pieces => pieces::answer(alloc, case),
-            Cases::Trees => trees::answer(alloc, case),
-            Cases::Climbs => climbs::answer(alloc, case),
-            Cases::Resumes => resumes::answer(alloc, case),
-            Cases::Words => words::answer(alloc, case),
-            Cases::Operands => operands::answer(alloc, case),
+impl<R: Abort> Subject<Cases> for Asked<'_, R> {
+    fn tell(&self, kind: &Cases, case: &str, into: &mut Report) {
+        let (rt, alloc) = (self.rt, self.alloc);
+        match kind {
+            Cases::CodePage => code_page::tell(into, case),
+            Cases::Names => names::tell(into, rt, alloc, case),
+            Cases::Fields => fields::tell(into, rt, alloc, case),
+            Cases::Files => files::tell(into, rt, alloc, case),
+            Cases::Maps => maps::tell(into, rt, alloc, case),
+            Cases::Records => records::tell(into, rt, alloc, case),
+            Cases::Pieces => pieces::tell(into, rt, alloc, case),
+            Cases::Trees => trees::tell(into, rt, alloc, case),
+            Cases::Climbs => climbs::tell(into, rt, alloc, case),
+            Cases::Resumes => resumes::tell(into, rt, alloc, case),
+            Cases::Words => words::tell(into, rt, alloc, case),
+            Cases::Operands => operands::tell(into, rt, alloc, case),
         }
     }
 }
 
 #[test]
 fn cases_have_their_answers(rt: HostRuntime) -> Result<(), Fail> {
-    try_rows(&rt, ROWS)
+    try_rows(
+        &rt,
+        &Asked {
+            rt: &rt,
+            alloc: rt.alloc(),
+        },
+        ROWS,
+    )
 }

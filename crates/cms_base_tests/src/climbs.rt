@@ -1,13 +1,14 @@
 // Trees that are written while their leaves are, beside those that `build` makes.
-ghost use Rattle.std.specs.Prelude.{◌≡◌, ◌⊎◌, ◌/◌, ◌≤◌, length, vec_len, IfOk};
+ghost use Rattle.std.specs.Prelude.{◌≡◌, ◌⊎◌, ◌/◌, ◌≤◌, length, vec_len};
 ghost use Rattle.cms_model.specs.Sizes.{pointer_count};
 
 use crate::plain_world::{PlainWorld, blank, written_once};
-use cms_cases::{number, told, word};
+use cms_cases::{Report, number, word};
 use cms_journal::BlockSize;
 use cms_tree::{Climb, Mark, build, shape};
 use cms_world::World;
-use std::alloc::{AllocError, Global};
+use std::alloc::Global;
+use std::process::Abort;
 
 /// `climb/LEAVES/SIZE`: whether a tree over so many leaves with pointers of this size is written, and as `build` makes it.
 /// `blocks/COUNT`: whether one over the leaves 10 to 138 is written where the write behind so many fails, of the first pointer block or of
@@ -30,14 +31,15 @@ blocks/131 => (false, 131, Some([136, 137, 1000000, 138, 1000001]), 1)";
 pub const FIRST: u32 = 1_000_000;
 
 /// So many numbers, one after another.
-pub fn numbers(alloc: Global, first: u32, count: u32) -> Result<Vec<u32>, AllocError>
-    ensures { IfOk result (λ v. vec_len v ≡ count) }
+pub fn numbers<R: Abort>(rt: &R, alloc: Global, first: u32, count: u32) -> Vec<u32>
+    ensures { vec_len result ≡ count }
 {
     let mut numbers = Vec::new(alloc);
     for place in 0..count {
-        numbers.push(first.wrapping_add(place))?;
+        let number = first.wrapping_add(place);
+        numbers.push(number).expect(rt, "memory");
     }
-    Ok(numbers)
+    numbers
 }
 
 /// A mark of its own for each leaf.
@@ -49,14 +51,14 @@ pub fn mark_of(place: u32) -> Mark {
 }
 
 // The marks of so many leaves.
-fn marks(alloc: Global, count: u32) -> Result<Vec<Mark>, AllocError>
-    ensures { IfOk result (λ v. vec_len v ≡ count) }
+fn marks<R: Abort>(rt: &R, alloc: Global, count: u32) -> Vec<Mark>
+    ensures { vec_len result ≡ count }
 {
     let mut marks = Vec::new(alloc);
     for place in 0..count {
-        marks.push(mark_of(place))?;
+        marks.push(mark_of(place)).expect(rt, "memory");
     }
-    Ok(marks)
+    marks
 }
 
 /// Writes the leaves of a tree from one on by the world, and with them the pointer blocks over them; whether all were written.
@@ -86,20 +88,21 @@ pub fn add_leaves(
 }
 
 /// Writes a tree of so many leaves; whether all were written.
-pub fn climbs(
+pub fn climbs<R: Abort>(
+    rt: &R,
     alloc: Global,
     world: &mut PlainWorld<'_>,
     leaves: u32,
     psize: u8,
     fresh: &[u32],
-) -> Result<bool, AllocError>
+) -> bool
     requires some { 1 ≤ leaves }
     requires few { leaves ≤ 100000 }
     requires psize { (psize ≡ 4) ⊎ (psize ≡ 12) }
     requires fresh { pointer_count (512 / psize) leaves ≤ length fresh.now }
 {
-    let mut climb = Climb::new(alloc, leaves, BlockSize::new(512), psize)?;
-    Ok(add_leaves(&mut climb, world, 0, leaves, fresh))
+    let climb = Climb::new(alloc, leaves, BlockSize::new(512), psize);
+    add_leaves(&mut climb.expect(rt, "memory"), world, 0, leaves, fresh)
 }
 
 // How many pointer blocks have this number or a higher one, where the world holds each of them once and as `build` makes it.
@@ -135,7 +138,8 @@ fn built(
 
 /// Whether the world holds, behind so many blocks, each pointer block with this number or a higher one once and as `build` makes it, and
 /// no other.
-pub fn holds(
+pub fn holds<R: Abort>(
+    rt: &R,
     alloc: Global,
     world: &PlainWorld<'_>,
     leaves: u32,
@@ -143,62 +147,47 @@ pub fn holds(
     fresh: &[u32],
     new: u32,
     others: usize,
-) -> Result<bool, AllocError>
+) -> bool
     requires some { 1 ≤ leaves }
     requires few { leaves ≤ 100000 }
     requires psize { (psize ≡ 4) ⊎ (psize ≡ 12) }
     requires fresh { pointer_count (512 / psize) leaves ≤ length fresh.now }
 {
-    let blocks = numbers(alloc, 10, leaves)?;
-    let marks = marks(alloc, leaves)?;
+    let blocks = numbers(rt, alloc, 10, leaves);
+    let marks = marks(rt, alloc, leaves);
     let held = world.blocks.len().checked_sub(others);
-    Ok(built(world, &blocks, &marks, psize, fresh, new) == held)
+    built(world, &blocks, &marks, psize, fresh, new) == held
 }
 
 // Whether a tree is written, and as it is built.
-fn climb(alloc: Global, leaves: u32, is_wide: bool) -> Result<String, AllocError> {
+fn tell_climb<R: Abort>(into: &mut Report, rt: &R, alloc: Global, leaves: u32, is_wide: bool) {
     let psize = if is_wide { 12 } else { 4 };
     if leaves < 1 || leaves > 100_000 {
-        return told(alloc, &"no tree");
+        return into.push_str("no tree");
     }
-    let fresh = numbers(alloc, FIRST, shape(leaves, 512 / u32::from(psize)).pointers)?;
-    climb_told(alloc, &mut blank(alloc, usize::MAX), leaves, psize, &fresh)
-}
-
-fn climb_told(
-    alloc: Global,
-    world: &mut PlainWorld<'_>,
-    leaves: u32,
-    psize: u8,
-    fresh: &[u32],
-) -> Result<String, AllocError>
-    requires some { 1 ≤ leaves }
-    requires few { leaves ≤ 100000 }
-    requires psize { (psize ≡ 4) ⊎ (psize ≡ 12) }
-    requires fresh { pointer_count (512 / psize) leaves ≤ length fresh.now }
-{
-    let climbs = climbs(alloc, world, leaves, psize, fresh)?;
+    let count = shape(leaves, 512 / u32::from(psize)).pointers;
+    let fresh = numbers(rt, alloc, FIRST, count);
+    let mut world = blank(alloc, usize::MAX);
+    let climbs = climbs(rt, alloc, &mut world, leaves, psize, &fresh);
     let others = leaves as usize;
-    let holds = holds(alloc, world, leaves, psize, fresh, FIRST, others)?;
-    told(alloc, &(climbs, holds))
+    let holds = holds(rt, alloc, &world, leaves, psize, &fresh, FIRST, others);
+    into.value(&(climbs, holds))
 }
 
-// What is written of a tree over 129 leaves.
-fn blocks(alloc: Global, world: &mut PlainWorld<'_>) -> Result<String, AllocError> {
-    let fresh = numbers(alloc, FIRST, shape(129, 128).pointers)?;
-    let climbs = climbs(alloc, world, 129, 4, &fresh)?;
+// What is written of a tree over 129 leaves where the write behind so many fails.
+fn tell_blocks<R: Abort>(into: &mut Report, rt: &R, alloc: Global, most: usize) {
+    let fresh = numbers(rt, alloc, FIRST, shape(129, 128).pointers);
+    let mut world = blank(alloc, most);
+    let climbs = climbs(rt, alloc, &mut world, 129, 4, &fresh);
     let count = world.blocks.len();
-    told(
-        alloc,
-        &(climbs, count, world.blocks.get(126..), world.failures),
-    )
+    into.value(&(climbs, count, world.blocks.get(126..), world.failures))
 }
 
-/// What a case comes to.
-pub fn answer(alloc: Global, case: &str) -> Result<String, AllocError> {
+/// Tells what a case comes to.
+pub fn tell<R: Abort>(into: &mut Report, rt: &R, alloc: Global, case: &str) {
     let count = number(word(case, 1));
     match word(case, 0) {
-        "climb" => climb(alloc, count, word(case, 2) == "12"),
-        _ => blocks(alloc, &mut blank(alloc, count as usize)),
+        "climb" => tell_climb(into, rt, alloc, count, word(case, 2) == "12"),
+        _ => tell_blocks(into, rt, alloc, count as usize),
     }
 }

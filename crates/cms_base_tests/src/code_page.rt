@@ -1,7 +1,6 @@
 // Code page 037, by the manual's table.
-use cms_cases::{byte, told};
+use cms_cases::{Report, byte};
 use cms_ebcdic::{fold_lower, fold_upper, from_host, to_host};
-use std::alloc::{AllocError, Global};
 
 /// A character and its code. `outside BYTE`: a byte of ASCII that has no code. `unused CODE`: a code that has no character.
 /// `capital of CODE CODE`: a small letter and its capital. `no letter CODE`: a code that doesn't fold.
@@ -102,22 +101,23 @@ fn stays(code: u8) -> bool {
     fold_upper(code) == code && fold_lower(code) == code
 }
 
-fn is_so(case: &str) -> Option<bool> {
-    let (what, last) = case.rsplit_once(' ')?;
-    let last = byte(last)?;
-    let is_so = match what {
+fn is_so(what: &str, last: u8) -> bool {
+    match what {
         "outside" => from_host(last).is_none(),
         "unused" => to_host(last) == b'.',
         "no letter" => stays(last),
         _ => match what.strip_prefix("capital of ") {
-            Some(small) => folds(byte(small)?, last),
+            Some(small) => byte(small).is_some_and(|small| folds(small, last)),
             None => has_code(what, last),
         },
-    };
-    Some(is_so)
+    }
 }
 
-/// Whether a case is so.
-pub fn answer(alloc: Global, case: &str) -> Result<String, AllocError> {
-    told(alloc, &is_so(case).ok_or(AllocError)?)
+/// Tells whether a case is so.
+pub fn tell(into: &mut Report, case: &str) {
+    let (what, last) = case.rsplit_once(' ').unwrap_or(("", case));
+    match byte(last) {
+        Some(last) => into.value(&is_so(what, last)),
+        None => into.push_str("no code"),
+    }
 }

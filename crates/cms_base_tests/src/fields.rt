@@ -1,12 +1,13 @@
 // Labels, entries, dates and moments with their answers, worked out by hand from the format's tables and the calendar.
-use cms_cases::{bytes_of, number, told, word};
+use cms_cases::{Report, bytes_of, number, word};
 use cms_fields::{
     Entry, Label, Moment, Stamp, read_entry, read_label, read_stamp, write_entry, write_label,
     write_stamp,
 };
 use cms_journal::BlockSize;
 use cms_names::{Format, Name, NameFault, Part};
-use std::alloc::{AllocError, Global};
+use std::alloc::Global;
+use std::process::Abort;
 
 /// `moment/SECONDS/OFFSET`: the moment. `stamp/YEAR`: of the stamp of 23:58:59 on November 30 of the year, the digits of the year and
 /// the flags that are written, and whether the date's other bytes are. `date/BYTES/FLAGS`: the year of the stamp that is read from them. An edit PLACE=BYTES puts other bytes from a place on.
@@ -153,24 +154,24 @@ fn put(into: &mut [u8], at: usize, others: &[u8]) {
 }
 
 // Makes an edit: a place, and the bytes from there on.
-fn edit(alloc: Global, into: &mut [u8], edit: &str) -> Result<(), AllocError> {
+fn edit<R: Abort>(bytes: &mut [u8], rt: &R, alloc: Global, edit: &str) {
     let (place, others) = edit.split_once("=").unwrap_or(("", ""));
-    put(into, place.parse().unwrap_or(0), &bytes_of(alloc, others)?);
-    Ok(())
+    let others = bytes_of(alloc, others).expect(rt, "bytes");
+    put(bytes, place.parse().unwrap_or(0), &others)
 }
 
 // The bytes that a text says, with the edits of a case.
-fn edited(alloc: Global, text: &str, case: &str) -> Result<Vec<u8>, AllocError> {
-    let mut bytes = bytes_of(alloc, text)?;
+fn edited<R: Abort>(rt: &R, alloc: Global, text: &str, case: &str) -> Vec<u8> {
+    let mut bytes = bytes_of(alloc, text).expect(rt, "bytes");
     for word in case.split('/') {
-        edit(alloc, &mut bytes, word)?;
+        edit(&mut bytes, rt, alloc, word);
     }
-    Ok(bytes)
+    bytes
 }
 
-fn moment(alloc: Global, case: &str) -> Result<String, AllocError> {
-    let seconds = word(case, 1).parse().ok().ok_or(AllocError)?;
-    let offset: i32 = word(case, 2).parse().ok().ok_or(AllocError)?;
+fn tell_moment<R: Abort>(into: &mut Report, rt: &R, case: &str) {
+    let seconds = word(case, 1).parse().expect(rt, "seconds");
+    let offset: i32 = word(case, 2).parse().expect(rt, "an offset");
     let Moment {
         year,
         month,
@@ -179,10 +180,10 @@ fn moment(alloc: Global, case: &str) -> Result<String, AllocError> {
         minute,
         second,
     } = Moment::of_epoch(seconds, offset.clamp(-54_000, 54_000));
-    told(alloc, &(year, month, day, hour, minute, second))
+    into.value(&(year, month, day, hour, minute, second))
 }
 
-fn stamp(alloc: Global, year: u32) -> Result<String, AllocError> {
+fn tell_stamp(into: &mut Report, year: u32) {
     let stamp = Stamp::of(&Moment {
         year: u16::try_from(year).unwrap_or(0),
         month: 11,
@@ -196,41 +197,39 @@ fn stamp(alloc: Global, year: u32) -> Result<String, AllocError> {
     if stamp.is_valid() {
         flags = write_stamp(&stamp, &mut date);
     }
-    told(
-        alloc,
-        &(
-            date[0] / 16 * 10 + date[0] % 16,
-            flags,
-            date[1..] == [0x11, 0x30, 0x23, 0x58, 0x59],
-        ),
-    )
+    into.value(&(
+        date[0] / 16 * 10 + date[0] % 16,
+        flags,
+        date[1..] == [0x11, 0x30, 0x23, 0x58, 0x59],
+    ))
 }
 
 // The year of the stamp that a date and its flags spell.
-fn date(alloc: Global, case: &str) -> Result<String, AllocError> {
-    let bytes = bytes_of(alloc, word(case, 1))?;
+fn tell_date<R: Abort>(into: &mut Report, rt: &R, alloc: Global, case: &str) {
+    let bytes = bytes_of(alloc, word(case, 1)).expect(rt, "bytes");
     let flags: u8 = word(case, 2).parse().unwrap_or(0);
     if bytes.len() != 6 {
-        return told(alloc, &"other than six bytes");
+        return into.push_str("other than six bytes");
     }
     match read_stamp(&bytes, flags) {
-        Some(stamp) => told(alloc, &stamp.year),
-        None => String::from_str(alloc, "none"),
+        Some(stamp) => into.value(&stamp.year),
+        None => into.push_str("none"),
     }
 }
 
-fn entry(alloc: Global, case: &str) -> Result<String, AllocError> {
-    let bytes = edited(alloc, HELLO, case)?;
+fn tell_entry<R: Abort>(into: &mut Report, rt: &R, alloc: Global, case: &str) {
+    let bytes = edited(rt, alloc, HELLO, case);
     if bytes.len() < 64 {
-        return told(alloc, &"short");
+        return into.push_str("short");
     }
     match read_entry(&bytes, BlockSize::new(512)) {
-        Ok(entry) => told(alloc, &(Ok(entry) == hello())),
-        Err(fault) => told(alloc, &fault),
+        Ok(entry) => into.value(&(Ok(entry) == hello())),
+        Err(fault) => into.value(&fault),
     }
 }
 
-fn entry_is_written(alloc: Global) -> Result<String, AllocError> {
+fn tell_written_entry<R: Abort>(into: &mut Report, rt: &R, alloc: Global) {
+    let wanted = bytes_of(alloc, HELLO).expect(rt, "bytes");
     let mut bytes = [0xFF; 64];
     match hello() {
         Ok(entry) if entry.number <= 6 && entry.stamp.is_valid() => {
@@ -238,23 +237,20 @@ fn entry_is_written(alloc: Global) -> Result<String, AllocError> {
         }
         _ => {}
     }
-    told(
-        alloc,
-        &(bytes_of(alloc, HELLO)?.as_slice() == bytes.as_slice()),
-    )
+    into.value(&(wanted.as_slice() == bytes.as_slice()))
 }
 
-fn label(alloc: Global, case: &str) -> Result<String, AllocError> {
-    let bytes = edited(alloc, TEST01, case)?;
+fn tell_label<R: Abort>(into: &mut Report, rt: &R, alloc: Global, case: &str) {
+    let bytes = edited(rt, alloc, TEST01, case);
     match BlockSize::of(number(word(case, 1))) {
         Some(bsize) if bytes.len() >= 80 => {
-            told(alloc, &read_label(&bytes, bsize, number(word(case, 2))))
+            into.value(&read_label(&bytes, bsize, number(word(case, 2))))
         }
-        _ => told(alloc, &"short"),
+        _ => into.push_str("short"),
     }
 }
 
-fn label_is_written(alloc: Global, case: &str) -> Result<String, AllocError> {
+fn tell_written_label<R: Abort>(into: &mut Report, rt: &R, alloc: Global, case: &str) {
     let label = Label {
         volid: [0xD5, 0xC5, 0xE6, 0xF0, 0xF0, 0xF2],
         bsize: 512,
@@ -262,22 +258,22 @@ fn label_is_written(alloc: Global, case: &str) -> Result<String, AllocError> {
         blocks: 9,
         in_use: 0x0102_0304,
     };
-    let mut bytes = bytes_of(alloc, TEST01)?;
+    let mut bytes = bytes_of(alloc, TEST01).expect(rt, "bytes");
     if bytes.len() >= 80 {
         write_label(&label, &mut bytes);
     }
-    told(alloc, &(bytes == edited(alloc, TEST01, case)?))
+    into.value(&(bytes == edited(rt, alloc, TEST01, case)))
 }
 
-/// What a case comes to.
-pub fn answer(alloc: Global, case: &str) -> Result<String, AllocError> {
+/// Tells what a case comes to.
+pub fn tell<R: Abort>(into: &mut Report, rt: &R, alloc: Global, case: &str) {
     match word(case, 0) {
-        "moment" => moment(alloc, case),
-        "stamp" => stamp(alloc, number(word(case, 1))),
-        "date" => date(alloc, case),
-        "entry" => entry(alloc, case),
-        "entry is written" => entry_is_written(alloc),
-        "label" => label(alloc, case),
-        _ => label_is_written(alloc, case),
+        "moment" => tell_moment(into, rt, case),
+        "stamp" => tell_stamp(into, number(word(case, 1))),
+        "date" => tell_date(into, rt, alloc, case),
+        "entry" => tell_entry(into, rt, alloc, case),
+        "entry is written" => tell_written_entry(into, rt, alloc),
+        "label" => tell_label(into, rt, alloc, case),
+        _ => tell_written_label(into, rt, alloc, case),
     }
 }

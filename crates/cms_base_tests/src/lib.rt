@@ -14,6 +14,8 @@ mod fields;
 #[cfg(test)]
 mod files;
 #[cfg(test)]
+mod host;
+#[cfg(test)]
 mod line;
 #[cfg(test)]
 mod maps;

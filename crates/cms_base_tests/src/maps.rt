@@ -1,7 +1,8 @@
 // The map of a small volume, through all its calls.
-use cms_cases::{number, told, word};
+use cms_cases::{Report, number, word};
 use cms_map::Map;
-use std::alloc::{AllocError, Global};
+use std::alloc::Global;
+use std::process::Abort;
 
 /// `used/BLOCK`: whether the block is used in a map of 9. `taken`: how many of them are free, whether two are taken, how many are free
 /// then, whether one more is taken, and those that were.
@@ -32,70 +33,73 @@ bytes/00FFFF/24/1/FFFF00 => true
 bytes/FFFFFF/3/0/E00000 => true
 bytes/FFFFFF/24/4294967295/000000 => true";
 
-fn used(alloc: Global, block: u32) -> Result<String, AllocError> {
-    let map = Map::of_bytes(alloc, &[0xFC, 0x80], 9)?;
-    told(alloc, &((1..=9).contains(&block) && map.is_used(block)))
+fn tell_used<R: Abort>(into: &mut Report, rt: &R, alloc: Global, block: u32) {
+    let map = Map::of_bytes(alloc, &[0xFC, 0x80], 9).expect(rt, "memory");
+    into.value(&((1..=9).contains(&block) && map.is_used(block)))
 }
 
-fn taken(alloc: Global) -> Result<String, AllocError> {
-    let mut map = Map::of_bytes(alloc, &[0xFC, 0x80], 9)?;
-    let mut blocks = Vec::with_capacity(alloc, 3)?;
+fn tell_taken<R: Abort>(into: &mut Report, rt: &R, alloc: Global) {
+    let mut map = Map::of_bytes(alloc, &[0xFC, 0x80], 9).expect(rt, "memory");
+    let mut blocks = Vec::with_capacity(alloc, 3).expect(rt, "memory");
     let free = map.free_count();
     let two = map.take_lowest(2, &mut blocks);
     let left = map.free_count();
     let third = map.take_lowest(1, &mut blocks);
-    told(alloc, &(free, two, left, third, blocks.as_slice()))
+    into.value(&(free, two, left, third, blocks.as_slice()))
 }
 
-fn released(alloc: Global) -> Result<String, AllocError> {
-    let mut map = Map::of_bytes(alloc, &[0xFF, 0xC0], 10)?;
+fn tell_released<R: Abort>(into: &mut Report, rt: &R, alloc: Global) {
+    let mut map = Map::of_bytes(alloc, &[0xFF, 0xC0], 10).expect(rt, "memory");
     map.release(10);
     map.release(6);
     map.release(10);
-    told(alloc, &(map.free_count(), map.is_used(6), map.is_used(7)))
+    into.value(&(map.free_count(), map.is_used(6), map.is_used(7)))
 }
 
-fn again(alloc: Global) -> Result<String, AllocError> {
-    let mut map = Map::of_bytes(alloc, &[0, 0, 0], 24)?;
-    let mut blocks = Vec::with_capacity(alloc, 5)?;
+fn tell_again<R: Abort>(into: &mut Report, rt: &R, alloc: Global) {
+    let mut map = Map::of_bytes(alloc, &[0, 0, 0], 24).expect(rt, "memory");
+    let mut blocks = Vec::with_capacity(alloc, 5).expect(rt, "memory");
     let _three = map.take_lowest(3, &mut blocks);
     map.release(6);
     let _two = map.take_lowest(2, &mut blocks);
-    told(alloc, &blocks.as_slice())
+    into.value(&blocks.as_slice())
 }
 
-fn touched(alloc: Global, block: u32) -> Result<String, AllocError> {
-    let map = Map::of_bytes(alloc, &[0; 1024], 8192)?;
-    let mut into = Vec::with_capacity(alloc, 3)?;
-    into.push(9)?;
+fn tell_touched<R: Abort>(into: &mut Report, rt: &R, alloc: Global, block: u32) {
+    let map = Map::of_bytes(alloc, &[0; 1024], 8192).expect(rt, "memory");
+    let mut touched = Vec::with_capacity(alloc, 3).expect(rt, "memory");
+    touched.push(9).expect(rt, "memory");
     if (1..=8192).contains(&block) {
-        map.touched(&[block, 1, block], 512, &mut into);
+        map.touched(&[block, 1, block], 512, &mut touched);
     }
-    told(alloc, &into.as_slice())
+    into.value(&touched.as_slice())
 }
 
 // The three bytes that six hexadecimal digits say.
-fn three(digits: &str) -> Result<[u8; 3], AllocError> {
-    let number = u32::from_str_radix(digits, 16).ok().ok_or(AllocError)?;
+fn three<R: Abort>(rt: &R, digits: &str) -> [u8; 3] {
+    let number = u32::from_str_radix(digits, 16).expect(rt, "six digits");
     let [_, first, second, third] = number.to_be_bytes();
-    Ok([first, second, third])
+    [first, second, third]
 }
 
-fn given(alloc: Global, case: &str) -> Result<String, AllocError> {
-    let map = Map::of_bytes(alloc, &three(word(case, 1))?, number(word(case, 2)).min(24))?;
-    let mut into = [7; 3];
-    map.clone()?.put_bytes(number(word(case, 3)), &mut into);
-    told(alloc, &(into == three(word(case, 4))?))
+fn tell_given<R: Abort>(into: &mut Report, rt: &R, alloc: Global, case: &str) {
+    let blocks = number(word(case, 2)).min(24);
+    let map = Map::of_bytes(alloc, &three(rt, word(case, 1)), blocks).expect(rt, "memory");
+    let mut given = [7; 3];
+    map.clone()
+        .expect(rt, "memory")
+        .put_bytes(number(word(case, 3)), &mut given);
+    into.value(&(given == three(rt, word(case, 4))))
 }
 
-/// What a case comes to.
-pub fn answer(alloc: Global, case: &str) -> Result<String, AllocError> {
+/// Tells what a case comes to.
+pub fn tell<R: Abort>(into: &mut Report, rt: &R, alloc: Global, case: &str) {
     match word(case, 0) {
-        "used" => used(alloc, number(word(case, 1))),
-        "taken" => taken(alloc),
-        "released" => released(alloc),
-        "again" => again(alloc),
-        "touched" => touched(alloc, number(word(case, 1))),
-        _ => given(alloc, case),
+        "used" => tell_used(into, rt, alloc, number(word(case, 1))),
+        "taken" => tell_taken(into, rt, alloc),
+        "released" => tell_released(into, rt, alloc),
+        "again" => tell_again(into, rt, alloc),
+        "touched" => tell_touched(into, rt, alloc, number(word(case, 1))),
+        _ => tell_given(into, rt, alloc, case),
     }
 }

@@ -1,8 +1,9 @@
 // Words and what they spell, as the manuals' examples and the product's own rules have them.
-use cms_cases::{Ascii, byte, told, word};
+use cms_cases::{Report, byte, word};
 use cms_names::{ModeWord, Name, NameFault, OutId, Part, Pattern, equal_signs, is_name_character};
 use cms_text::{ebcdic, without_trailing_blanks};
-use std::alloc::{AllocError, Global};
+use std::alloc::Global;
+use std::process::Abort;
 
 /// `part/WORD`: what the word is as a part. `filled/WORD`: the field that it fills. `same/WORD/WORD`: whether they are the same part.
 /// `character/CODE`: whether the code is that of a name character. `pattern/PATTERN/PART`: whether the pattern fits the part.
@@ -82,18 +83,18 @@ output/A/A* => BadChar(1)
 output/==/ => BadChar(0)";
 
 // What a word is as a part.
-fn part(alloc: Global, text: &[u8]) -> Result<String, AllocError> {
+fn tell_part(into: &mut Report, text: &[u8]) {
     match Part::read(text) {
-        Ok(part) => format!(in alloc; "{}", Ascii(part.as_bytes())),
-        Err(fault) => told(alloc, &fault),
+        Ok(part) => into.ascii(part.as_bytes()),
+        Err(fault) => into.value(&fault),
     }
 }
 
 // The field that a part fills.
-fn filled(alloc: Global, text: &[u8]) -> Result<String, AllocError> {
+fn tell_filled(into: &mut Report, text: &[u8]) {
     match Part::read(text) {
-        Ok(part) => told(alloc, part.padded()),
-        Err(fault) => told(alloc, &fault),
+        Ok(part) => into.value(part.padded()),
+        Err(fault) => into.value(&fault),
     }
 }
 
@@ -120,42 +121,49 @@ fn parts(name: &Name) -> [u8; 16] {
 }
 
 // The name that an output makes of the name A B, as it is written.
-fn made(alloc: Global, to: &OutId) -> Result<String, AllocError> {
+fn tell_made(into: &mut Report, to: &OutId) {
     match name() {
         Ok(from) => {
             let parts = parts(&equal_signs(&from, to));
-            format!(in alloc; "{}", Ascii(without_trailing_blanks(&parts)))
+            into.ascii(without_trailing_blanks(&parts))
         }
-        Err(fault) => told(alloc, &fault),
+        Err(fault) => into.value(&fault),
     }
 }
 
 // The same of two words.
-fn output(alloc: Global, first: &[u8], second: &[u8]) -> Result<String, AllocError> {
+fn tell_output(into: &mut Report, first: &[u8], second: &[u8]) {
     match OutId::read(first, second) {
-        Ok(to) => made(alloc, &to),
-        Err(fault) => told(alloc, &fault),
+        Ok(to) => tell_made(into, &to),
+        Err(fault) => into.value(&fault),
     }
 }
 
-fn answer_to(alloc: Global, what: &str, first: &[u8], second: &[u8]) -> Result<String, AllocError> {
+fn tell_words(into: &mut Report, what: &str, first: &[u8], second: &[u8]) {
     match what {
-        "part" => part(alloc, first),
-        "filled" => filled(alloc, first),
-        "same" => told(alloc, &(Part::read(first) == Part::read(second))),
-        "pattern" => told(alloc, &fits(first, second)),
-        "mode" => told(alloc, &ModeWord::read(first)),
-        "output" => output(alloc, first, second),
-        _ => told(alloc, &what),
+        "part" => tell_part(into, first),
+        "filled" => tell_filled(into, first),
+        "same" => into.value(&(Part::read(first) == Part::read(second))),
+        "pattern" => into.value(&fits(first, second)),
+        "mode" => into.value(&ModeWord::read(first)),
+        "output" => tell_output(into, first, second),
+        _ => into.value(&what),
     }
 }
 
-/// What a case comes to.
-pub fn answer(alloc: Global, case: &str) -> Result<String, AllocError> {
-    if let Some(code) = case.strip_prefix("character/") {
-        return told(alloc, &is_name_character(byte(code).ok_or(AllocError)?));
+fn tell_character(into: &mut Report, code: &str) {
+    match byte(code) {
+        Some(code) => into.value(&is_name_character(code)),
+        None => into.push_str("no code"),
     }
-    let first = ebcdic(alloc, word(case, 1))?;
-    let second = ebcdic(alloc, word(case, 2))?;
-    answer_to(alloc, word(case, 0), &first, &second)
+}
+
+/// Tells what a case comes to.
+pub fn tell<R: Abort>(into: &mut Report, rt: &R, alloc: Global, case: &str) {
+    if let Some(code) = case.strip_prefix("character/") {
+        return tell_character(into, code);
+    }
+    let first = ebcdic(alloc, word(case, 1)).expect(rt, "memory");
+    let second = ebcdic(alloc, word(case, 2)).expect(rt, "memory");
+    tell_words(into, word(case, 0), &first, &second)
 }

@@ -1,6 +1,6 @@
 // Lines of a command with a name, a mode and a number, and what is typed where they are refused; written by hand from the manual's
 // order of refusals.
-use cms_cases::{Ascii, told};
+use cms_cases::Report;
 use cms_line::{Line, Message, Tokens, tokens, write_message};
 use cms_operands::{
     ChosenOptions, CommandFault, OptionForm, Parameter, Refusal, access_mode, chosen_options,
@@ -9,7 +9,8 @@ use cms_operands::{
     writing_mode,
 };
 use cms_text::{LONGEST_TEXT, ebcdic};
-use std::alloc::{AllocError, Global};
+use std::alloc::Global;
+use std::process::Abort;
 
 /// `line/LINE`: the options that the line chooses, or what is typed and the code.
 /// `command/WORD`: the command that the word names. `KIND/WORD`: what the word is, read by its kind.
@@ -88,10 +89,10 @@ access mode/A1 => Err(BadMode(2))";
 
 const A: u8 = 0xC1;
 
-fn words_of(alloc: Global, text: &str) -> Result<Tokens, AllocError> {
-    let mut bytes = ebcdic(alloc, text)?;
+fn words_of<R: Abort>(rt: &R, alloc: Global, text: &str) -> Tokens {
+    let mut bytes = ebcdic(alloc, text).expect(rt, "memory");
     bytes.truncate(LONGEST_TEXT);
-    tokens(alloc, &Line::take(bytes))
+    tokens(alloc, &Line::take(bytes)).expect(rt, "memory")
 }
 
 #[derive(Clone, Copy, Debug)]
@@ -126,71 +127,60 @@ fn read(alloc: Global, words: &Tokens) -> Result<ChosenOptions<LineOption>, Comm
     chosen_options(alloc, &forms(), words)
 }
 
-// The text of a message.
-fn text_of(alloc: Global, message: &Message) -> Result<String, AllocError> {
+/// Adds the text of a message.
+pub fn push_message<R: Abort>(into: &mut Report, rt: &R, alloc: Global, message: Message) {
     let mut text = Vec::new(alloc);
-    write_message(&mut text, message)?;
-    format!(in alloc; "{}", Ascii(&text))
-}
-
-// What is typed.
-fn typed(alloc: Global, words: &Tokens, why: Refusal) -> Result<String, AllocError> {
-    let message = why.message(alloc, words.as_slice())?;
-    let text = text_of(alloc, &message);
+    write_message(&mut text, &message).expect(rt, "memory");
     drop(message);
-    text
+    into.ascii(&text)
 }
 
 // What is typed, and the code.
-fn refused(alloc: Global, words: &Tokens, why: Refusal) -> Result<String, AllocError> {
-    let typed = typed(alloc, words, why)?;
+fn tell_refusal<R: Abort>(into: &mut Report, rt: &R, alloc: Global, words: &Tokens, why: Refusal) {
     let code = why.code();
-    format!(in alloc; "{typed} {code}")
+    let message = why.message(alloc, words.as_slice()).expect(rt, "memory");
+    push_message(into, rt, alloc, message);
+    write!(into, " {code}")
 }
 
 // The options that a line chooses, or what is typed.
-fn line(alloc: Global, text: &str) -> Result<String, AllocError> {
-    let words = words_of(alloc, text)?;
-    match read(alloc, &words) {
-        Ok(chosen) => {
-            let told = told(alloc, &chosen.as_slice());
-            drop(chosen);
-            told
-        }
-        Err(CommandFault::Refused(why)) => refused(alloc, &words, why),
-        Err(CommandFault::Memory) => Err(AllocError),
+fn tell_line<R: Abort>(into: &mut Report, rt: &R, alloc: Global, words: &Tokens) {
+    match read(alloc, words) {
+        Ok(chosen) => into.value(&chosen.as_slice()),
+        Err(CommandFault::Refused(why)) => tell_refusal(into, rt, alloc, words, why),
+        Err(CommandFault::Memory) => into.push_str("no memory"),
     }
 }
 
 // What a word is by its kind.
-fn word(alloc: Global, kind: &str, word: &[u8]) -> Result<String, AllocError> {
+fn tell_word(into: &mut Report, kind: &str, word: &[u8]) {
     match kind {
-        "command" => told(alloc, &command_named(word)),
-        "name or all" => told(alloc, &name_or_all(1, word)),
-        "name or same" => told(alloc, &name_or_same(1, word)),
-        "pattern" => told(alloc, &pattern(1, word).is_ok()),
-        "reading mode" => told(alloc, &reading_mode(3, word)),
-        "writing mode" => told(alloc, &writing_mode(3, word)),
-        _ => other_word(alloc, kind, word),
+        "command" => into.value(&command_named(word)),
+        "name or all" => into.value(&name_or_all(1, word)),
+        "name or same" => into.value(&name_or_same(1, word)),
+        "pattern" => into.value(&pattern(1, word).is_ok()),
+        "reading mode" => into.value(&reading_mode(3, word)),
+        "writing mode" => into.value(&writing_mode(3, word)),
+        _ => tell_other_word(into, kind, word),
     }
 }
 
-fn other_word(alloc: Global, kind: &str, word: &[u8]) -> Result<String, AllocError> {
+fn tell_other_word(into: &mut Report, kind: &str, word: &[u8]) {
     match kind {
-        "output mode" => told(alloc, &output_mode(6, word)),
-        "letter or all" => told(alloc, &letter_or_all(2, word)),
-        "number or all" => told(alloc, &number_or_all(0, 9, 1, word)),
-        "device or letter" => told(alloc, &device_or_letter(1, word)),
-        "access mode" => told(alloc, &access_mode(2, word)),
-        _ => told(alloc, &"no kind"),
+        "output mode" => into.value(&output_mode(6, word)),
+        "letter or all" => into.value(&letter_or_all(2, word)),
+        "number or all" => into.value(&number_or_all(0, 9, 1, word)),
+        "device or letter" => into.value(&device_or_letter(1, word)),
+        "access mode" => into.value(&access_mode(2, word)),
+        _ => into.push_str("no kind"),
     }
 }
 
-/// What a case comes to.
-pub fn answer(alloc: Global, case: &str) -> Result<String, AllocError> {
+/// Tells what a case comes to.
+pub fn tell<R: Abort>(into: &mut Report, rt: &R, alloc: Global, case: &str) {
     let (kind, text) = case.split_once("/").unwrap_or((case, ""));
     match kind {
-        "line" => line(alloc, text),
-        _ => word(alloc, kind, &ebcdic(alloc, text)?),
+        "line" => tell_line(into, rt, alloc, &words_of(rt, alloc, text)),
+        _ => tell_word(into, kind, &ebcdic(alloc, text).expect(rt, "memory")),
     }
 }

@@ -1,8 +1,9 @@
 // Records whose bytes come in pieces.
-use cms_cases::{bytes_of, number, told, word};
+use cms_cases::{Report, bytes_of, number, word};
 use cms_journal::BlockSize;
 use cms_records::{RecordState, VarFault, VarScan, VarSizes, put_var};
 use std::alloc::{AllocError, Global};
+use std::process::Abort;
 
 /// `varying`, `long`, `fixed`: how far each piece is fed, or the fault.
 /// `refused`: what is said of a length of 0 whose first byte came before, and of the piece that is fed in its place.
@@ -29,54 +30,52 @@ sizes/3/00 03 C1 C2 C3 00 01 C4/00 09 C1 => Err(PastEnd(8))
 sizes/2/00 03 C1 C2 C3 00 01 C4/512 zeros => Err(Left(8))";
 
 // Records of 3 bytes and of 1, of which the second length is cut, and one of no bytes.
-fn varying(alloc: Global) -> Result<String, AllocError> {
-    let mut state = RecordState::new(alloc, None, 3)?;
+fn tell_varying<R: Abort>(into: &mut Report, rt: &R, alloc: Global) {
+    let mut state = RecordState::new(alloc, None, 3).expect(rt, "memory");
     let first = state.feed(&[0, 3, 0xC1, 0xC2, 0xC3, 0], 0);
     let cut = state.feed(&[0, 3, 0xC1, 0xC2, 0xC3, 0], 5);
     let second = state.feed(&[1, 0xC4, 0, 0], 0);
-    told(
-        alloc,
-        &(first, cut, second, state.feed(&[1, 0xC4, 0, 0], 2)),
-    )
+    into.value(&(first, cut, second, state.feed(&[1, 0xC4, 0, 0], 2)))
 }
 
 // A record above the longest.
-fn long(alloc: Global) -> Result<String, AllocError> {
-    let mut state = RecordState::new(alloc, None, 3)?;
-    told(alloc, &state.feed(&[0, 4, 0xC1], 0))
+fn tell_long<R: Abort>(into: &mut Report, rt: &R, alloc: Global) {
+    let mut state = RecordState::new(alloc, None, 3).expect(rt, "memory");
+    into.value(&state.feed(&[0, 4, 0xC1], 0))
 }
 
 // One record of 2 bytes, and the first byte of the next.
-fn fixed(alloc: Global) -> Result<String, AllocError> {
-    let mut state = RecordState::new(alloc, Some(2), 2)?;
+fn tell_fixed<R: Abort>(into: &mut Report, rt: &R, alloc: Global) {
+    let mut state = RecordState::new(alloc, Some(2), 2).expect(rt, "memory");
     let first = state.feed(&[0, 0, 1], 0);
-    told(alloc, &(first, state.feed(&[0, 0, 1], 2)))
+    into.value(&(first, state.feed(&[0, 0, 1], 2)))
 }
 
 // A length of which the second byte is refused, and another second byte.
-fn refused(alloc: Global) -> Result<String, AllocError> {
-    let mut state = RecordState::new(alloc, None, 3)?;
+fn tell_refused<R: Abort>(into: &mut Report, rt: &R, alloc: Global) {
+    let mut state = RecordState::new(alloc, None, 3).expect(rt, "memory");
     let _first = state.feed(&[0, 1, 0xC1, 0], 0);
     let _cut = state.feed(&[0, 1, 0xC1, 0], 3);
     let bad = state.feed(&[0, 0xC4], 0);
-    told(alloc, &(bad, state.feed(&[1, 0xC4], 0)))
+    into.value(&(bad, state.feed(&[1, 0xC4], 0)))
 }
 
 const FILL: [u8; 700] = [7; 700];
 
 // Where the first record begins in the last data block of records of these lengths, from 1 to 700.
-fn start(alloc: Global, lengths: &str) -> Result<String, AllocError> {
+fn tell_start<R: Abort>(into: &mut Report, rt: &R, alloc: Global, lengths: &str) {
     let mut bytes = Vec::new(alloc);
     let mut count = 0_u32;
     for length in lengths.split(' ') {
-        put_var(&mut bytes, &FILL[..number(length).clamp(1, 700) as usize])?;
+        let length = number(length).clamp(1, 700) as usize;
+        put_var(&mut bytes, &FILL[..length]).expect(rt, "memory");
         count = count.saturating_add(1);
     }
     let mut scan = VarScan::new(count, BlockSize::new(512));
     if bytes.len() <= 10_000 {
         let _fed = scan.feed(&bytes);
     }
-    told(alloc, &scan.last_start())
+    into.value(&scan.last_start())
 }
 
 // So many records in two pieces, in whole blocks of 512 bytes.
@@ -97,20 +96,20 @@ fn piece(alloc: Global, text: &str) -> Result<Vec<u8>, AllocError> {
     }
 }
 
-fn sizes_told(alloc: Global, case: &str) -> Result<String, AllocError> {
-    let first = piece(alloc, word(case, 2))?;
-    let second = piece(alloc, word(case, 3))?;
-    told(alloc, &sizes(number(word(case, 1)), &first, &second))
+fn tell_sizes<R: Abort>(into: &mut Report, rt: &R, alloc: Global, case: &str) {
+    let first = piece(alloc, word(case, 2)).expect(rt, "bytes");
+    let second = piece(alloc, word(case, 3)).expect(rt, "bytes");
+    into.value(&sizes(number(word(case, 1)), &first, &second))
 }
 
-/// What a case comes to.
-pub fn answer(alloc: Global, case: &str) -> Result<String, AllocError> {
+/// Tells what a case comes to.
+pub fn tell<R: Abort>(into: &mut Report, rt: &R, alloc: Global, case: &str) {
     match word(case, 0) {
-        "varying" => varying(alloc),
-        "long" => long(alloc),
-        "fixed" => fixed(alloc),
-        "refused" => refused(alloc),
-        "start" => start(alloc, word(case, 1)),
-        _ => sizes_told(alloc, case),
+        "varying" => tell_varying(into, rt, alloc),
+        "long" => tell_long(into, rt, alloc),
+        "fixed" => tell_fixed(into, rt, alloc),
+        "refused" => tell_refused(into, rt, alloc),
+        "start" => tell_start(into, rt, alloc, word(case, 1)),
+        _ => tell_sizes(into, rt, alloc, case),
     }
 }

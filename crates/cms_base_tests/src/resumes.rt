@@ -4,10 +4,11 @@ ghost use Rattle.cms_model.specs.Sizes.{pointer_count};
 
 use crate::climbs::{FIRST, add_leaves, climbs, holds, mark_of, numbers};
 use crate::plain_world::{PlainWorld, blank};
-use cms_cases::{number, told, word};
+use cms_cases::{Report, number, word};
 use cms_journal::BlockSize;
 use cms_tree::{Climb, shape};
-use std::alloc::{AllocError, Global};
+use std::alloc::Global;
+use std::process::Abort;
 
 /// `resume/BEFORE/KEPT/LEAVES/SIZE`: a tree over so many leaves that keeps some of those of a tree before, with pointers of this
 /// size: whether it was written, whether each new pointer block is as `build` makes it, where those that are kept have their old
@@ -36,7 +37,7 @@ struct Resumed {
 const NEW: u32 = 2_000_000;
 
 // The number of each pointer block of the new tree: its old one, where all below it is kept, else the next new one.
-fn numbers_after(alloc: Global, trees: &Resumed) -> Result<Vec<u32>, AllocError>
+fn numbers_after<R: Abort>(rt: &R, alloc: Global, trees: &Resumed) -> Vec<u32>
     requires psize { (trees.now.psize ≡ 4) ⊎ (trees.now.psize ≡ 12) }
     requires some { 1 ≤ trees.now.before }
     requires more { 1 ≤ trees.now.leaves }
@@ -51,16 +52,16 @@ fn numbers_after(alloc: Global, trees: &Resumed) -> Result<Vec<u32>, AllocError>
         size = size.saturating_mul(fan).max(1);
         for nth in 0..trees.leaves.div_ceil(size) {
             let end = nth.saturating_add(1).saturating_mul(size);
-            if height < old_levels && end <= trees.kept {
-                numbers.push(first.wrapping_add(nth))?;
-            } else {
-                numbers.push(next)?;
+            let mut number = first.wrapping_add(nth);
+            if height >= old_levels || end > trees.kept {
+                number = next;
                 next = next.wrapping_add(1);
             }
+            numbers.push(number).expect(rt, "memory");
         }
         first = first.wrapping_add(trees.before.div_ceil(size));
     }
-    Ok(numbers)
+    numbers
 }
 
 // Goes on with the tree that stands, and writes the leaves that aren't kept; whether all were written.
@@ -99,13 +100,14 @@ fn resume(
 }
 
 // What becomes of a tree: whether it is written, whether as it is built, and how many blocks are read.
-fn told_of(
+fn tell_resumed<R: Abort>(
+    into: &mut Report,
+    rt: &R,
     alloc: Global,
-    world: &mut PlainWorld<'_>,
     trees: &Resumed,
     olds: &[u32],
     fresh: &[u32],
-) -> Result<String, AllocError>
+)
     requires psize { (trees.now.psize ≡ 4) ⊎ (trees.now.psize ≡ 12) }
     requires some { 1 ≤ trees.now.before }
     requires few { (trees.now.before ≤ 100000) × (trees.now.leaves ≤ 100000) }
@@ -114,33 +116,51 @@ fn told_of(
     requires olds { length olds.now ≡ pointer_count (512 / trees.now.psize) trees.now.before }
     requires fresh { pointer_count (512 / trees.now.psize) trees.now.leaves ≤ length fresh.now }
 {
-    climbs(alloc, world, trees.before, trees.psize, olds)?;
+    let mut world = blank(alloc, usize::MAX);
+    climbs(rt, alloc, &mut world, trees.before, trees.psize, olds);
     let leaves = (trees.leaves - trees.kept) as usize;
     let others = world.blocks.len().saturating_add(leaves);
-    let resumes = resume(alloc, world, trees, olds, fresh);
-    let holds = holds(alloc, world, trees.leaves, trees.psize, fresh, NEW, others)?;
-    told(alloc, &(resumes, holds, world.reads))
+    let resumes = resume(alloc, &mut world, trees, olds, fresh);
+    let holds = holds(
+        rt,
+        alloc,
+        &world,
+        trees.leaves,
+        trees.psize,
+        fresh,
+        NEW,
+        others,
+    );
+    into.value(&(resumes, holds, world.reads))
 }
 
-/// What a case comes to.
-pub fn answer(alloc: Global, case: &str) -> Result<String, AllocError> {
-    let trees = Resumed {
+// The trees of a case.
+fn trees_of(case: &str) -> Resumed
+    ensures { (result.psize ≡ 4) ⊎ (result.psize ≡ 12) }
+{
+    Resumed {
         before: number(word(case, 1)),
         kept: number(word(case, 2)),
         leaves: number(word(case, 3)),
         psize: if word(case, 4) == "12" { 12 } else { 4 },
-    };
+    }
+}
+
+/// Tells what a case comes to.
+pub fn tell<R: Abort>(into: &mut Report, rt: &R, alloc: Global, case: &str) {
+    let trees = trees_of(case);
     if trees.before < 1 || trees.before > 100_000 || trees.leaves > 100_000 {
-        return told(alloc, &"no tree");
+        return into.push_str("no tree");
     }
     if trees.kept > trees.before || trees.kept >= trees.leaves {
-        return told(alloc, &"not kept");
+        return into.push_str("not kept");
     }
     let fan = 512 / u32::from(trees.psize);
-    let olds = numbers(alloc, FIRST, shape(trees.before, fan).pointers)?;
-    let fresh = numbers_after(alloc, &trees)?;
+    let count = shape(trees.before, fan).pointers;
+    let olds = numbers(rt, alloc, FIRST, count);
+    let fresh = numbers_after(rt, alloc, &trees);
     if fresh.len() < shape(trees.leaves, fan).pointers as usize {
-        return told(alloc, &"no numbers");
+        return into.push_str("no numbers");
     }
-    told_of(alloc, &mut blank(alloc, usize::MAX), &trees, &olds, &fresh)
+    tell_resumed(into, rt, alloc, &trees, &olds, &fresh)
 }

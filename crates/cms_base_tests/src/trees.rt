@@ -4,11 +4,12 @@ ghost use Rattle.cms_journal.specs.Journal.{HasBlocks};
 ghost use Rattle.cms_world.specs.Mem.{journal_of};
 
 use crate::climbs::numbers;
-use cms_cases::{number, told, word};
+use cms_cases::{Report, number, word};
 use cms_journal::BlockSize;
 use cms_tree::{Mark, TreeAt, build, leaves, left_out, path, shape};
 use cms_world::{Access, MemWorld, Unit, World};
-use std::alloc::{AllocError, Global};
+use std::alloc::Global;
+use std::process::Abort;
 
 /// `shape/LEAVES/FAN`: the shape of a tree over so many leaves with so many pointers in a block.
 /// `marks`: the front of a pointer block with marks, and whether the rest is zeros.
@@ -43,15 +44,15 @@ path/300/301/128/300 => ([100, 101, 1000, 1001], [102, 103])
 path/130/129/128/0 => ([1000, 1001, 1002], [100, 101, 102])
 path/2/1/128/0 => ([], [100])";
 
-fn shape_told(alloc: Global, leaves: u32, fan: u32) -> Result<String, AllocError> {
+fn tell_shape(into: &mut Report, leaves: u32, fan: u32) {
     if leaves < 1 || fan < 2 {
-        return told(alloc, &"no tree");
+        return into.push_str("no tree");
     }
-    told(alloc, &shape(leaves, fan))
+    into.value(&shape(leaves, fan))
 }
 
 // A record of 509 bytes and one of 3, each behind its length, stand in two blocks: the second begins in the first block.
-fn marks(alloc: Global) -> Result<String, AllocError> {
+fn tell_marks(into: &mut Report) {
     let marks = [
         Mark { last: 2, place: 0 },
         Mark {
@@ -71,10 +72,7 @@ fn marks(alloc: Global) -> Result<String, AllocError> {
             &mut block,
         );
     }
-    told(
-        alloc,
-        &(block.get(..24), block[24..].iter().all(|byte| *byte == 0)),
-    )
+    into.value(&(block.get(..24), block[24..].iter().all(|byte| *byte == 0)))
 }
 
 // The data blocks of a tree: block 4, and blocks 7 to 48.
@@ -87,9 +85,9 @@ fn data_blocks() -> [u32; 43] {
 }
 
 // An image of zeros, with the pointer blocks over them, which are blocks 49 to 51.
-fn tree_image(alloc: Global) -> Result<Vec<u8>, AllocError> {
+fn tree_image<R: Abort>(rt: &R, alloc: Global) -> Vec<u8> {
     let marks = [Mark { last: 1, place: 0 }; 43];
-    let mut image = vec![in alloc; 0; 48 * 512]?;
+    let mut image = vec![in alloc; 0; 48 * 512].expect(rt, "memory");
     if shape(43, 42).pointers == 3 {
         for nth in 0..3 {
             let mut block = [0; 512];
@@ -102,10 +100,10 @@ fn tree_image(alloc: Global) -> Result<Vec<u8>, AllocError> {
                 nth,
                 &mut block,
             );
-            image.extend_from_slice(&block)?;
+            image.extend_from_slice(&block).expect(rt, "memory");
         }
     }
-    Ok(image)
+    image
 }
 
 // The image as a unit.
@@ -123,40 +121,39 @@ fn attach(world: &mut MemWorld) -> Option<Unit>
 }
 
 // Reads a tree, behind a number in each list.
-fn read(alloc: Global, world: &mut MemWorld, at: &TreeAt) -> Result<String, AllocError>
+fn tell_read<R: Abort>(into: &mut Report, rt: &R, alloc: Global, world: &mut MemWorld, at: &TreeAt)
     requires some { 1 ≤ at.now.count }
     requires psize { at.now.psize ≡ 12 }
     requires blocks { HasBlocks (journal_of world.old).units at.now.unit at.now.volume
         at.now.bsize }
 {
-    let mut pointers = vec![in alloc; 1]?;
-    let mut found = vec![in alloc; 2]?;
+    let mut pointers = vec![in alloc; 1].expect(rt, "memory");
+    let mut found = vec![in alloc; 2].expect(rt, "memory");
     let answer = leaves(alloc, world, at, &mut pointers, &mut found);
     let count = found.len();
     let are_built = found.get(1..) == data_blocks().get(..count.saturating_sub(1));
-    let calls = world.calls().len();
-    told(
-        alloc,
-        &(
-            answer,
-            pointers.as_slice(),
-            found.first(),
-            count,
-            are_built,
-            calls,
-        ),
-    )
+    into.value(&(
+        answer,
+        pointers.as_slice(),
+        found.first(),
+        count,
+        are_built,
+        world.calls().len(),
+    ))
 }
 
-// Gives a world the image, and has one of its calls fail.
-fn fill(world: &mut MemWorld, alloc: Global, failing: u32) -> Result<(), AllocError> {
-    world.add_image("T", &tree_image(alloc)?)?;
-    world.fail_at(failing, false)
+// A world that has the image, of whose calls one fails.
+fn world_of<R: Abort>(rt: &R, alloc: Global, failing: u32) -> MemWorld {
+    let mut world = MemWorld::new(alloc, b"", 0).expect(rt, "memory");
+    world
+        .add_image("T", &tree_image(rt, alloc))
+        .expect(rt, "memory");
+    world.fail_at(failing, false).expect(rt, "memory");
+    world
 }
 
 // How a tree is read in a world.
-fn tree(alloc: Global, world: &mut MemWorld, case: &str) -> Result<String, AllocError> {
-    fill(world, alloc, number(word(case, 4)))?;
+fn tell_tree<R: Abort>(into: &mut Report, rt: &R, alloc: Global, world: &mut MemWorld, case: &str) {
     let count = number(word(case, 2));
     match attach(world) {
         Some(unit) if count >= 1 => {
@@ -170,37 +167,41 @@ fn tree(alloc: Global, world: &mut MemWorld, case: &str) -> Result<String, Alloc
                 psize: 12,
                 first: word(case, 3).parse().ok(),
             };
-            read(alloc, world, &at)
+            tell_read(into, rt, alloc, world, &at)
         }
-        _ => told(alloc, &"no tree"),
+        _ => into.push_str("no tree"),
     }
 }
 
-fn path_told(
+fn tell_path<R: Abort>(
+    into: &mut Report,
+    rt: &R,
     alloc: Global,
     before: u32,
     count: u32,
     fan: u32,
     written: u32,
-) -> Result<String, AllocError> {
+) {
     if before < 1 || count < 1 || fan < 2 {
-        return told(alloc, &"no tree");
+        return into.push_str("no tree");
     }
-    let olds = numbers(alloc, 100, shape(before, fan).pointers)?;
-    let fresh = numbers(alloc, 1000, shape(count, fan).pointers)?;
-    let mut blocks = Vec::with_capacity(alloc, fresh.len())?;
-    let mut left = Vec::with_capacity(alloc, olds.len())?;
+    let olds = numbers(rt, alloc, 100, shape(before, fan).pointers);
+    let fresh = numbers(rt, alloc, 1000, shape(count, fan).pointers);
+    let mut blocks = Vec::with_capacity(alloc, fresh.len()).expect(rt, "memory");
+    let mut left = Vec::with_capacity(alloc, olds.len()).expect(rt, "memory");
     path(before, &olds, count, fan, &[written], &fresh, &mut blocks);
     left_out(before, &olds, count, fan, &[written], &mut left);
-    told(alloc, &(blocks.as_slice(), left.as_slice()))
+    into.value(&(blocks.as_slice(), left.as_slice()))
 }
 
-/// What a case comes to.
-pub fn answer(alloc: Global, case: &str) -> Result<String, AllocError> {
+/// Tells what a case comes to.
+pub fn tell<R: Abort>(into: &mut Report, rt: &R, alloc: Global, case: &str) {
     match word(case, 0) {
-        "shape" => shape_told(alloc, number(word(case, 1)), number(word(case, 2))),
-        "marks" => marks(alloc),
-        "path" => path_told(
+        "shape" => tell_shape(into, number(word(case, 1)), number(word(case, 2))),
+        "marks" => tell_marks(into),
+        "path" => tell_path(
+            into,
+            rt,
             alloc,
             number(word(case, 1)),
             number(word(case, 2)),
@@ -208,10 +209,9 @@ pub fn answer(alloc: Global, case: &str) -> Result<String, AllocError> {
             number(word(case, 4)),
         ),
         _ => {
-            let mut world = MemWorld::new(alloc, b"", 0)?;
-            let answer = tree(alloc, &mut world, case);
-            drop(world);
-            answer
+            let mut world = world_of(rt, alloc, number(word(case, 4)));
+            tell_tree(into, rt, alloc, &mut world, case);
+            drop(world)
         }
     }
 }

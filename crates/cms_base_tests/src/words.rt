@@ -1,8 +1,9 @@
 // Lists of words with what they say.
-use cms_cases::told;
+use cms_cases::Report;
 use cms_words::{UnitWord, Words, read_words};
 use cms_world::Argv;
-use std::alloc::{AllocError, Global};
+use std::alloc::Global;
+use std::process::Abort;
 
 /// Words with strokes between them, and what they say: the turns, the offset, the seed and the units, or the fault behind its number.
 pub const ROWS: &str = "\
@@ -156,49 +157,34 @@ cms/-g/x/-z/X/191,512,rw,x/191,512,rw,x => (4, Zone)
 cms/-g/x/191,512,rw,x/191,512,rw,x => (5, Twice(401))
 no words => (1, Syntax)";
 
-fn push_words(into: &mut Argv, case: &str) -> Result<(), AllocError> {
-    for word in case.split('/') {
-        into.push(word)?;
-    }
-    Ok(())
-}
-
-fn argv(alloc: Global, case: &str) -> Result<Argv, AllocError> {
+fn argv<R: Abort>(rt: &R, alloc: Global, case: &str) -> Argv {
     let mut words = Argv::new(alloc);
     if case != "no words" {
-        push_words(&mut words, case)?;
+        for word in case.split('/') {
+            words.push(word).expect(rt, "memory");
+        }
     }
-    Ok(words)
+    words
 }
 
-fn push_unit(into: &mut String, unit: &UnitWord) -> Result<(), AllocError> {
+fn push_unit(into: &mut Report, unit: &UnitWord) {
     let (bsize, name) = (unit.bsize.bytes(), unit.name.text());
     write!(into, " {:03X},{bsize},{:?},{name}", unit.vdev, unit.access)
 }
 
-fn push_units(into: &mut String, words: &Words) -> Result<(), AllocError> {
+fn push_words(into: &mut Report, words: &Words) {
+    into.value(&(words.turns, words.offset, words.seed));
     for place in 0..words.units.len() {
         if let Some(word) = words.units.get(place) {
-            push_unit(into, word)?;
+            push_unit(into, word);
         }
     }
-    Ok(())
 }
 
-fn values(alloc: Global, words: &Words) -> Result<String, AllocError> {
-    let mut text = told(alloc, &(words.turns, words.offset, words.seed))?;
-    push_units(&mut text, words)?;
-    Ok(text)
-}
-
-/// What a case comes to.
-pub fn answer(alloc: Global, case: &str) -> Result<String, AllocError> {
-    match read_words(alloc, &argv(alloc, case)?) {
-        Ok(words) => {
-            let values = values(alloc, &words);
-            drop(words);
-            values
-        }
-        Err(fault) => told(alloc, &(fault.number(), fault)),
+/// Tells what a case comes to.
+pub fn tell<R: Abort>(into: &mut Report, rt: &R, alloc: Global, case: &str) {
+    match read_words(alloc, &argv(rt, alloc, case)) {
+        Ok(words) => push_words(into, &words),
+        Err(fault) => into.value(&(fault.number(), fault)),
     }
 }

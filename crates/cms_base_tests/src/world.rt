@@ -2,5 +2,5 @@
 mod cases;
 mod memory;
 mod quiet;
-mod steps;
+pub mod steps;
 mod words;

@@ -1,4 +1,5 @@
 // What cases say.
+use crate::report::Report;
 use std::alloc::{AllocError, Global};
 
 /// The word of a case at a place, from 0; strokes stand between the words. Empty where there is none.
@@ -35,18 +36,25 @@ fn repeated(part: &str) -> Option<(&str, usize, &str)> {
     Some((piece, count.parse().ok()?, rest))
 }
 
-/// A text in which a piece in braces, with a star and a number behind it, stands that many times. Other braces stand as they are.
-pub fn written_out(alloc: Global, text: &str) -> Result<String, AllocError> {
-    let mut parts = text.split("{");
-    let mut whole = String::from_str(alloc, parts.next().unwrap_or(""))?;
-    for part in parts {
-        if let Some((piece, count, rest)) = repeated(part) {
-            whole.push_str(&piece.repeat(alloc, count)?)?;
-            whole.push_str(rest)?;
-        } else {
-            whole.push_str("{")?;
-            whole.push_str(part)?;
-        }
+// Adds what stands behind a brace: a piece so often, or the brace and what it is.
+fn push_part(into: &mut Report, part: &str) {
+    let Some((piece, count, rest)) = repeated(part) else {
+        into.push_str("{");
+        return into.push_str(part);
+    };
+    for _ in 0..count {
+        into.push_str(piece);
     }
-    Ok(whole)
+    into.push_str(rest)
+}
+
+/// A text in which a piece in braces, with a star and a number behind it, stands that many times. Other braces stand as they are.
+pub fn written_out(alloc: Global, text: &str) -> Report {
+    let mut parts = text.split("{");
+    let mut whole = Report::new(alloc);
+    whole.push_str(parts.next().unwrap_or(""));
+    for part in parts {
+        push_part(&mut whole, part);
+    }
+    whole
 }

@@ -1,8 +1,16 @@
 // The cases of each module, and the test that tries them.
 use crate::{changes, empty_minidisks, puts, reads, shared_blocks};
-use cms_cases::{Subject, try_rows};
-use std::alloc::{AllocError, Global};
+use cms_cases::{Report, Subject, try_rows};
+use std::alloc::Global;
+use std::process::Abort;
 use std::test::Fail;
+
+/// Who is asked for the answers: where there is no memory, or a case can't be made, the test ends.
+#[derive(Drop)]
+pub struct Asked<'a, R: Abort> {
+    pub rt: &'a R,
+    pub alloc: Global,
+}
 
 // Whose cases they are.
 #[derive(Clone, Copy)]
@@ -23,19 +31,26 @@ const ROWS: &[(Cases, &str)] = &[
     (Cases::Making, empty_minidisks::ROWS),
 ];
 
-impl Subject for Cases {
-    fn answer(&self, alloc: Global, case: &str) -> Result<String, AllocError> {
-        match self {
-            Cases::Reading => reads::answer(alloc, case),
-            Cases::Putting => puts::answer(alloc, case),
-            Cases::Changing => changes::answer(alloc, case),
-            Cases::Sharing => shared_blocks::answer(alloc, case),
-            Cases::Making => empty_minidisks::answer(alloc, case),
+impl<R: Abort> Subject<Cases> for Asked<'_, R> {
+    fn tell(&self, kind: &Cases, case: &str, into: &mut Report) {
+        match kind {
+            Cases::Reading => reads::tell(into, self.rt, self.alloc, case),
+            Cases::Putting => puts::tell(into, self.rt, self.alloc, case),
+            Cases::Changing => changes::tell(into, self.rt, self.alloc, case),
+            Cases::Sharing => shared_blocks::tell(into, self.rt, self.alloc, case),
+            Cases::Making => empty_minidisks::tell(into, self.rt, self.alloc, case),
         }
     }
 }
 
 #[test]
 fn cases_have_their_answers(rt: HostRuntime) -> Result<(), Fail> {
-    try_rows(&rt, ROWS)
+    try_rows(
+        &rt,
+        &Asked {
+            rt: &rt,
+            alloc: rt.alloc(),
+        },
+        ROWS,
+    )
 }

@@ -1,6 +1,6 @@
 // Changes of minidisks on a world in memory, and what a crash leaves of them.
-use crate::disk::{access_of, info_of, letters, minidisk};
-use cms_cases::{number, told, word};
+use crate::disk::{access_of, info_of, minidisk, push_letters};
+use cms_cases::{Report, number, word};
 use cms_disk::{DiskFault, Minidisk};
 use cms_fields::Stamp;
 use cms_images::{
@@ -8,7 +8,8 @@ use cms_images::{
 };
 use cms_names::Name;
 use cms_world::{Access, MemWorld, World};
-use std::alloc::{AllocError, Global};
+use std::alloc::Global;
+use std::process::Abort;
 
 // NEWVOL, in EBCDIC.
 const NEW: [u8; 6] = [0xD5, 0xC5, 0xE6, 0xE5, 0xD6, 0xD3];
@@ -150,19 +151,30 @@ fn changed(alloc: Global, world: &mut MemWorld, access: Access, asked: &Asked) -
     Some((answer, disk))
 }
 
-// The files of what a crash leaves, or why there is no minidisk.
-fn left(alloc: Global, world: &MemWorld, at: usize, choice: u64) -> Result<String, AllocError> {
-    let mut after = world_of(image_left(alloc, world, at, choice)?);
-    let files = match minidisk(alloc, &mut after, Access::ReadOnly) {
+// Adds the files of an image, or why there is no minidisk.
+fn push_files(into: &mut Report, alloc: Global, image: Vec<u8>) {
+    let mut world = world_of(image);
+    match minidisk(alloc, &mut world, Access::ReadOnly) {
         Ok(disk) => {
-            let files = letters(alloc, &disk);
-            drop(disk);
-            files
+            push_letters(into, &disk);
+            drop(disk)
         }
-        Err(fault) => told(alloc, &fault),
-    };
-    drop(after);
-    files
+        Err(fault) => into.value(&fault),
+    }
+    drop(world)
+}
+
+// The same of what a crash leaves.
+fn push_left<R: Abort>(
+    into: &mut Report,
+    rt: &R,
+    alloc: Global,
+    world: &MemWorld,
+    at: usize,
+    choice: u64,
+) {
+    let image = image_left(alloc, world, at, choice).expect(rt, "memory");
+    push_files(into, alloc, image)
 }
 
 // The flags byte of the first file's entry, in the one block of the directory that the label names.
@@ -198,112 +210,113 @@ fn stamp_in(alloc: Global, image: Vec<u8>) -> Option<Stamp> {
     stamp
 }
 
-// The stamp of the first file of what is left, and the flags byte of its entry.
-fn dated(alloc: Global, world: &MemWorld) -> Result<String, AllocError> {
-    let image = image_left(alloc, world, world.events(), u64::MAX)?;
+// Adds the stamp of the first file of what is left, and the flags byte of its entry.
+fn push_dated<R: Abort>(into: &mut Report, rt: &R, alloc: Global, world: &MemWorld) {
+    let image = image_left(alloc, world, world.events(), u64::MAX).expect(rt, "memory");
     let flags = flags(&image).unwrap_or(0xFF);
     match stamp_in(alloc, image) {
-        Some(
-            Stamp {
-                year,
-                month,
-                day,
-                ..
-            },
-        ) => { format!(in alloc; "{year}-{month}-{day} {flags}") }
-        None => String::from_str(alloc, "no file"),
+        Some(stamp) => {
+            let (year, month, day) = (stamp.year, stamp.month, stamp.day);
+            write!(into, "{year}-{month}-{day} {flags}")
+        }
+        None => into.push_str("no file"),
     }
 }
 
-// Whether the bytes are those that a system leaves where it erases the one file of a volume.
-fn bytes_of(alloc: Global, world: &MemWorld) -> Result<&'static str, AllocError> {
-    if image_left(alloc, world, world.events(), 0)? == image_named(alloc, "erased")? {
-        Ok("as erased")
+// Adds the free blocks, the calls, and whether the bytes are those that a system leaves where it erases the one file of a volume.
+fn push_seen<R: Abort>(
+    into: &mut Report,
+    rt: &R,
+    alloc: Global,
+    world: &MemWorld,
+    disk: &Minidisk,
+) {
+    let left = image_left(alloc, world, world.events(), 0).expect(rt, "memory");
+    let erased = image_named(alloc, "erased").expect(rt, "memory");
+    let bytes = if left == erased {
+        "as erased"
     } else {
-        Ok("otherwise")
-    }
+        "otherwise"
+    };
+    write!(into, "{} {} {bytes}", disk.space().free, calls_of(world))
 }
 
-// The free blocks, the calls, and how the bytes are.
-fn seen(alloc: Global, world: &MemWorld, disk: &Minidisk) -> Result<String, AllocError> {
-    let bytes = bytes_of(alloc, world)?;
-    format!(in alloc; "{} {} {bytes}", disk.space().free, calls_of(world))
+// Adds the files, the events, and the files of what is left.
+fn push_changed<R: Abort>(
+    into: &mut Report,
+    rt: &R,
+    alloc: Global,
+    world: &MemWorld,
+    disk: &Minidisk,
+) {
+    into.push('[');
+    push_letters(into, disk);
+    write!(into, "] {} [", world.events());
+    push_left(into, rt, alloc, world, world.events(), u64::MAX);
+    into.push(']')
 }
 
-// The files, the events, and the files of what is left.
-fn files(alloc: Global, world: &MemWorld, disk: &Minidisk) -> Result<String, AllocError> {
-    let held = letters(alloc, disk)?;
-    let left = left(alloc, world, world.events(), u64::MAX)?;
-    format!(in alloc; "[{held}] {} [{left}]", world.events())
-}
-
-// What is told of a world and its minidisk.
-fn told_of(
+// Adds what is told of a world and its minidisk.
+fn push_told<R: Abort>(
+    into: &mut Report,
+    rt: &R,
     alloc: Global,
     world: &MemWorld,
     case: &str,
     disk: &Minidisk,
-) -> Result<String, AllocError> {
+) {
     let (at, choice) = (number(word(case, 3)), number(word(case, 4)));
     match word(case, 0) {
-        "seen" => seen(alloc, world, disk),
-        "dated" => dated(alloc, world),
-        "crash" => left(alloc, world, at as usize, u64::from(choice)),
-        _ => files(alloc, world, disk),
+        "seen" => push_seen(into, rt, alloc, world, disk),
+        "dated" => push_dated(into, rt, alloc, world),
+        "crash" => push_left(into, rt, alloc, world, at as usize, u64::from(choice)),
+        _ => push_changed(into, rt, alloc, world, disk),
     }
-}
-
-// An answer, and what is told then.
-fn with_answer(
-    alloc: Global,
-    world: &MemWorld,
-    case: &str,
-    answer: &Result<(), DiskFault>,
-    disk: &Minidisk,
-) -> Result<String, AllocError> {
-    let told = told_of(alloc, world, case, disk)?;
-    format!(in alloc; "{answer:?} {told}")
 }
 
 // The call that stands so many before the last one of an access and of what is asked then.
-fn call_back(alloc: Global, image: &[u8], asked: &Asked, back: u32) -> Result<u32, AllocError> {
-    let mut world = world_with(alloc, image, 0, false)?;
+fn call_back<R: Abort>(rt: &R, alloc: Global, image: &[u8], asked: &Asked, back: u32) -> u32 {
+    let mut world = world_with(alloc, image, 0, false).expect(rt, "memory");
     drop(changed(alloc, &mut world, Access::ReadWrite, asked));
     let calls = world.calls().len().min(1000) as u32;
     drop(world);
-    Ok(calls.saturating_sub(back))
+    calls.saturating_sub(back)
 }
 
 // What is answered on an image.
-fn answer_on(alloc: Global, image: &[u8], case: &str, asked: &Asked) -> Result<String, AllocError> {
+fn tell_on<R: Abort>(
+    into: &mut Report,
+    rt: &R,
+    alloc: Global,
+    image: &[u8],
+    case: &str,
+    asked: &Asked,
+) {
     let failing = match word(case, 0) {
-        "failing" => call_back(alloc, image, asked, number(word(case, 3)))?,
+        "failing" => call_back(rt, alloc, image, asked, number(word(case, 3))),
         _ => 0,
     };
-    let access = access_of(word(case, 0));
-    let mut world = world_with(alloc, image, failing, word(case, 4) == "landed")?;
-    let told = match changed(alloc, &mut world, access, asked) {
+    let lands = word(case, 4) == "landed";
+    let mut world = world_with(alloc, image, failing, lands).expect(rt, "memory");
+    match changed(alloc, &mut world, access_of(word(case, 0)), asked) {
         Some((answer, disk)) => {
-            let told = with_answer(alloc, &world, case, &answer, &disk);
-            drop(disk);
-            told
+            write!(into, "{answer:?} ");
+            push_told(into, rt, alloc, &world, case, &disk);
+            drop(disk)
         }
-        None => String::from_str(alloc, "no minidisk"),
-    };
-    drop(world);
-    told
+        None => into.push_str("no minidisk"),
+    }
+    drop(world)
 }
 
-/// What a case comes to.
-pub fn answer(alloc: Global, case: &str) -> Result<String, AllocError> {
-    match asked_by(word(case, 2)) {
-        Some(asked) => {
-            let mut image = image_named(alloc, word(case, 1))?;
-            if word(case, 0) == "dated" {
-                put_texts(image.as_mut_slice(), word(case, 3));
-            }
-            answer_on(alloc, &image, case, &asked)
-        }
-        None => String::from_str(alloc, "nothing is asked"),
+/// Tells what a case comes to.
+pub fn tell<R: Abort>(into: &mut Report, rt: &R, alloc: Global, case: &str) {
+    let Some(asked) = asked_by(word(case, 2)) else {
+        return into.push_str("nothing is asked");
+    };
+    let mut image = image_named(alloc, word(case, 1)).expect(rt, "memory");
+    if word(case, 0) == "dated" {
+        put_texts(image.as_mut_slice(), word(case, 3));
     }
+    tell_on(into, rt, alloc, &image, case, &asked)
 }

@@ -2,12 +2,13 @@
 ghost use Rattle.std.specs.Prelude.{◌≡◌, IsTrue};
 ghost use Rattle.cms_journal.specs.declared.event.Access.TheVariants.{ReadWrite};
 
+use cms_cases::Report;
 use cms_disk::{AccessFault, Minidisk, UnitInfo};
 use cms_ebcdic::to_host;
 use cms_images::{Disk, FILE};
 use cms_journal::BlockSize;
 use cms_world::{Access, Unit};
-use std::alloc::{AllocError, Global};
+use std::alloc::Global;
 
 /// Device 191 on an attached unit.
 pub fn info_of(unit: Unit, access: Access) -> UnitInfo
@@ -52,11 +53,9 @@ fn letter_at(disk: &Minidisk, place: u32) -> char {
     }
 }
 
-/// The letters of a minidisk's files, in their order.
-pub fn letters(alloc: Global, disk: &Minidisk) -> Result<String, AllocError> {
-    let mut text = String::new(alloc);
+/// Adds the letters of a minidisk's files, in their order.
+pub fn push_letters(into: &mut Report, disk: &Minidisk) {
     for place in 0..disk.count() {
-        text.push(letter_at(disk, place))?;
+        into.push(letter_at(disk, place));
     }
-    Ok(text)
 }

@@ -1,10 +1,11 @@
 // Empty minidisks that are made on the units of a world in memory.
 use crate::disk::{info_of, minidisk};
-use cms_cases::{number, word};
+use cms_cases::{Report, number, word};
 use cms_disk::{DiskFault, Minidisk};
 use cms_images::{Made, NOON, formatted, image_left, image_named, world_of, world_with};
 use cms_world::{Access, MemWorld, World};
-use std::alloc::{AllocError, Global};
+use std::alloc::Global;
+use std::process::Abort;
 
 // TEST01, in EBCDIC.
 const TEST01: [u8; 6] = [0xE3, 0xC5, 0xE2, 0xE3, 0xF0, 0xF1];
@@ -41,35 +42,32 @@ fn make_on(alloc: Global, world: &mut MemWorld) -> Option<Result<Minidisk, DiskF
 }
 
 // Adds the files and the free blocks of a minidisk.
-fn push_counts(into: &mut String, disk: &Minidisk) -> Result<(), AllocError> {
-    write!(into, "{:?}", (disk.count(), disk.space().free))
+fn push_counts(into: &mut Report, disk: &Minidisk) {
+    into.value(&(disk.count(), disk.space().free))
 }
 
-fn push_made(into: &mut String, alloc: Global, world: &mut MemWorld) -> Result<(), AllocError> {
+fn push_made(into: &mut Report, alloc: Global, world: &mut MemWorld) {
     match make_on(alloc, world) {
         Some(Ok(disk)) => {
-            let done = push_counts(into, &disk);
-            drop(disk);
-            done
+            push_counts(into, &disk);
+            drop(disk)
         }
-        Some(Err(fault)) => write!(into, "{fault:?}"),
+        Some(Err(fault)) => into.value(&fault),
         None => into.push_str("no unit"),
     }
 }
 
 // Adds what is accessed in an image.
-fn push_accessed(into: &mut String, alloc: Global, image: Vec<u8>) -> Result<(), AllocError> {
+fn push_accessed(into: &mut Report, alloc: Global, image: Vec<u8>) {
     let mut world = world_of(image);
-    let done = match minidisk(alloc, &mut world, Access::ReadOnly) {
+    match minidisk(alloc, &mut world, Access::ReadOnly) {
         Ok(disk) => {
-            let done = push_counts(into, &disk);
-            drop(disk);
-            done
+            push_counts(into, &disk);
+            drop(disk)
         }
-        Err(fault) => write!(into, "{fault:?}"),
-    };
-    drop(world);
-    done
+        Err(fault) => into.value(&fault),
+    }
+    drop(world)
 }
 
 const SMALL: Made = Made {
@@ -79,41 +77,24 @@ const SMALL: Made = Made {
     pointers: 0,
 };
 
-// Whether an image is that of an empty volume on zeros.
-fn bytes_of(alloc: Global, image: &[u8]) -> Result<&'static str, AllocError> {
-    if formatted(alloc, &SMALL)?.as_slice() == image {
-        Ok("empty")
+// Adds whether what is left of the first unit of a world is an empty volume on zeros, and what is accessed in it.
+fn push_left<R: Abort>(into: &mut Report, rt: &R, alloc: Global, world: &MemWorld) {
+    let empty = formatted(alloc, &SMALL).expect(rt, "memory");
+    let image = image_left(alloc, world, world.events(), u64::MAX).expect(rt, "memory");
+    into.push_str(if image == empty {
+        ", empty, "
     } else {
-        Ok("used")
-    }
-}
-
-// Adds whether what is left of the first unit of a world is such an image, and what is accessed in it.
-fn push_left(into: &mut String, alloc: Global, world: &MemWorld) -> Result<(), AllocError> {
-    let image = image_left(alloc, world, world.events(), u64::MAX)?;
-    write!(into, ", {}, ", bytes_of(alloc, &image)?)?;
+        ", used, "
+    });
     push_accessed(into, alloc, image)
 }
 
-// Adds what comes of a world.
-fn push_answer(into: &mut String, alloc: Global, world: &mut MemWorld) -> Result<(), AllocError> {
-    push_made(into, alloc, world)?;
-    push_left(into, alloc, world)
-}
-
-// The world of a case.
-fn world_of_case(alloc: Global, case: &str) -> Result<MemWorld, AllocError> {
-    let image = image_named(alloc, word(case, 0))?;
-    let failing = number(word(case, 1));
-    world_with(alloc, &image, failing, word(case, 2) == "landed")
-}
-
-/// What a case comes to.
-pub fn answer(alloc: Global, case: &str) -> Result<String, AllocError> {
-    let mut world = world_of_case(alloc, case)?;
-    let mut told = String::new(alloc);
-    let done = push_answer(&mut told, alloc, &mut world);
-    drop(world);
-    done?;
-    Ok(told)
+/// Tells what a case comes to.
+pub fn tell<R: Abort>(into: &mut Report, rt: &R, alloc: Global, case: &str) {
+    let image = image_named(alloc, word(case, 0)).expect(rt, "memory");
+    let (failing, lands) = (number(word(case, 1)), word(case, 2) == "landed");
+    let mut world = world_with(alloc, &image, failing, lands).expect(rt, "memory");
+    push_made(into, alloc, &mut world);
+    push_left(into, rt, alloc, &world);
+    drop(world)
 }

@@ -4,7 +4,8 @@ ghost use Rattle.std.specs.Prelude.{◌≡◌, ◌⊎◌};
 use cms_cases::number;
 use cms_images::known::{put, put_number};
 use cms_images::{DIRECTORY, Entry, MAP, put_entry};
-use std::alloc::{AllocError, Global};
+use std::alloc::Global;
+use std::process::Abort;
 
 const SIZE: usize = 512;
 
@@ -67,17 +68,29 @@ fn pointer_size(is_wide: bool) -> usize
 
 impl Filed {
     // Adds a record of this length, of the bytes 0, 1, 2 and so on.
-    fn add(&mut self, length: u32) -> Result<(), AllocError> {
-        self.begins.push(short(self.data.len()))?;
+    fn add<R: Abort>(&mut self, rt: &R, length: u32) {
+        self.begins
+            .push(short(self.data.len()))
+            .expect(rt, "memory");
         if self.is_wide {
             let [_, _, high, low] = length.to_be_bytes();
-            self.data.extend_from_slice(&[high, low])?;
+            self.data
+                .extend_from_slice(&[high, low])
+                .expect(rt, "memory");
         }
         for nth in 0..length {
-            self.data.push((nth % 251) as u8)?;
+            self.data.push((nth % 251) as u8).expect(rt, "memory");
         }
         self.longest = self.longest.max(length);
-        Ok(())
+    }
+
+    // Adds the records of a length, which perhaps has with it how many have it, as `512*300`.
+    fn add_part<R: Abort>(&mut self, rt: &R, part: &str) {
+        let (length, times) = part.split_once('*').unwrap_or((part, "1"));
+        let length = number(length);
+        for _ in 0..number(times) {
+            self.add(rt, length);
+        }
     }
 
     // Of a data block how many records begin up to its end, and where the first begins that begins in it.
@@ -97,20 +110,8 @@ impl Filed {
     }
 }
 
-impl Filed {
-    // Adds the records of a length, which perhaps has with it how many have it, as `512*300`.
-    fn add_part(&mut self, part: &str) -> Result<(), AllocError> {
-        let (length, times) = part.split_once('*').unwrap_or((part, "1"));
-        let length = number(length);
-        for _ in 0..number(times) {
-            self.add(length)?;
-        }
-        Ok(())
-    }
-}
-
 // The file of a text: its format, and the lengths of its records, each perhaps with how many have it, as `F 512*300` or `V 509 3`.
-fn read_file(alloc: Global, text: &str) -> Result<Filed, AllocError> {
+fn read_file<R: Abort>(rt: &R, alloc: Global, text: &str) -> Filed {
     let mut file = Filed {
         is_wide: text.starts_with("V"),
         data: Vec::new(alloc),
@@ -118,9 +119,9 @@ fn read_file(alloc: Global, text: &str) -> Result<Filed, AllocError> {
         longest: 0,
     };
     for part in text.split(' ').skip(1) {
-        file.add_part(part)?;
+        file.add_part(rt, part);
     }
-    Ok(file)
+    file
 }
 
 impl Paper {
@@ -131,20 +132,21 @@ impl Paper {
     }
 
     // So many blocks, one after another, of which the first may be given.
-    fn take_all(&mut self, first: Option<u32>, count: u32) -> Result<Vec<Cell>, AllocError> {
+    fn take_all<R: Abort>(&mut self, rt: &R, first: Option<u32>, count: u32) -> Vec<Cell> {
         let mut cells = Vec::new(self.alloc);
         for nth in 0..count {
             let block = match first {
                 Some(block) if nth == 0 => block,
                 _ => self.take(),
             };
-            cells.push(Cell {
+            let cell = Cell {
                 block,
                 last: 0,
                 place: 0,
-            })?;
+            };
+            cells.push(cell).expect(rt, "memory");
         }
-        Ok(cells)
+        cells
     }
 
     // Puts a pointer block over some blocks, and gives the pointer to it.
@@ -172,39 +174,37 @@ impl Paper {
     }
 
     // Puts the pointer blocks over some blocks, and gives the pointers to them.
-    fn level(&mut self, below: &[Cell], size: usize) -> Result<Vec<Cell>, AllocError>
+    fn level<R: Abort>(&mut self, rt: &R, below: &[Cell], size: usize) -> Vec<Cell>
         requires { (size ≡ 4) ⊎ (size ≡ 12) }
     {
         let mut above = Vec::new(self.alloc);
         for group in below.chunks(SIZE / size) {
-            above.push(self.node(group, size))?;
+            above.push(self.node(group, size)).expect(rt, "memory");
         }
-        Ok(above)
+        above
     }
 
     // Puts the pointer blocks over the data blocks of a tree, the lowest level first.
-    fn hang(&mut self, leaves: &[Cell], is_wide: bool) -> Result<Tree, AllocError> {
+    fn hang<R: Abort>(&mut self, rt: &R, leaves: &[Cell], is_wide: bool) -> Tree {
         let size = pointer_size(is_wide);
-        let mut below = leaves.to_vec(self.alloc)?;
+        let mut below = leaves.to_vec(self.alloc).expect(rt, "memory");
         let mut levels = 0u8;
         for _ in 0..4 {
             if below.len() > 1 {
-                below = self.level(&below, size)?;
+                below = self.level(rt, &below, size);
                 levels = levels.saturating_add(1);
             }
         }
         let root = below.first().map_or(0, |cell| cell.block);
-        Ok(Tree {
+        Tree {
             root,
             blocks: short(leaves.len()),
             levels,
-        })
+        }
     }
 
-    // Puts a file, and gives its entry.
-    fn put_file(&mut self, place: u32, file: &Filed) -> Result<Row, AllocError> {
-        let count = file.data.len().div_ceil(SIZE);
-        let mut leaves = self.take_all(None, short(count))?;
+    // Puts the bytes of a file into data blocks, and the marks of these.
+    fn put_bytes(&mut self, leaves: &mut [Cell], file: &Filed) {
         for (nth, cell) in leaves.iter_mut().enumerate() {
             let start = nth.saturating_mul(SIZE);
             let bytes = file.data.get(start..).unwrap_or(&[]);
@@ -212,14 +212,20 @@ impl Paper {
             put(self.image.as_mut_slice(), cell.block as usize, 0, piece);
             (cell.last, cell.place) = file.mark(nth);
         }
-        let tree = self.hang(&leaves, file.is_wide)?;
-        Ok(Row {
+    }
+
+    // Puts a file, and gives its entry.
+    fn put_file<R: Abort>(&mut self, rt: &R, place: u32, file: &Filed) -> Row {
+        let count = file.data.len().div_ceil(SIZE);
+        let mut leaves = self.take_all(rt, None, short(count));
+        self.put_bytes(leaves.as_mut_slice(), file);
+        Row {
             name: name_of(place),
             is_wide: file.is_wide,
             length: file.longest,
             records: short(file.begins.len()),
-            tree,
-        })
+            tree: self.hang(rt, &leaves, file.is_wide),
+        }
     }
 
     // Puts an entry into the directory's data blocks by its number.
@@ -232,35 +238,27 @@ impl Paper {
         put_entry(self.image.as_mut_slice(), at, &entry_of(row));
     }
 
-    // Puts a file of a place, as its text says it.
-    fn put_text(&mut self, listing: &[Cell], place: usize, text: &str) -> Result<(), AllocError> {
-        let file = read_file(self.alloc, text)?;
-        let row = self.put_file(short(place), &file)?;
-        self.put_row(listing, place.saturating_add(2), &row);
-        Ok(())
-    }
-
     // Puts files, as their texts say them.
-    fn put_files(&mut self, listing: &[Cell], files: &str) -> Result<(), AllocError> {
+    fn put_files<R: Abort>(&mut self, rt: &R, listing: &[Cell], files: &str) {
         for (place, text) in files.split(", ").enumerate() {
-            self.put_text(listing, place, text)?;
+            let file = read_file(rt, self.alloc, text);
+            let row = self.put_file(rt, short(place), &file);
+            self.put_row(listing, place.saturating_add(2), &row);
         }
-        Ok(())
     }
 
     // Puts all that a volume of so many blocks with these files has.
-    fn put_all(&mut self, blocks: u32, files: &str) -> Result<(), AllocError> {
+    fn put_all<R: Abort>(&mut self, rt: &R, blocks: u32, files: &str) {
         let count = short(files.split(", ").count()).saturating_add(2);
-        let map = self.take_all(None, blocks.div_ceil(4096))?;
-        let map_tree = self.hang(&map, false)?;
-        let listing = self.take_all(Some(4), count.div_ceil(8))?;
-        let listing_tree = self.hang(&listing, false)?;
+        let map = self.take_all(rt, None, blocks.div_ceil(4096));
+        let map_tree = self.hang(rt, &map, false);
+        let listing = self.take_all(rt, Some(4), count.div_ceil(8));
+        let listing_tree = self.hang(rt, &listing, false);
         self.put_row(&listing, 0, &own_row(DIRECTORY, 64, count, listing_tree));
         self.put_row(&listing, 1, &own_row(MAP, 512, map_tree.blocks, map_tree));
-        self.put_files(&listing, files)?;
+        self.put_files(rt, &listing, files);
         self.put_marks(&map);
         self.put_label(blocks);
-        Ok(())
     }
 
     // Marks the blocks that were taken, from block 6 on, and the first five.
@@ -341,12 +339,13 @@ fn own_row(name: [u8; 16], length: u32, records: u32, tree: Tree) -> Row {
 
 /// TEST01 on so many blocks of 512 bytes with these files, as `F 512*300, V 509 3`. Blocks are taken in order: block 4, and from block 6 on
 /// those of the map, of the directory and of each file, of each the data blocks and then the pointer blocks, lowest level first.
-pub fn volume_of(alloc: Global, blocks: u32, files: &str) -> Result<Vec<u8>, AllocError> {
+pub fn volume_of<R: Abort>(rt: &R, alloc: Global, blocks: u32, files: &str) -> Vec<u8> {
+    let size = (blocks as usize).saturating_mul(SIZE);
     let mut paper = Paper {
         alloc,
-        image: vec![in alloc; 0; (blocks as usize).saturating_mul(SIZE)]?,
+        image: vec![in alloc; 0; size].expect(rt, "memory"),
         next: 6,
     };
-    paper.put_all(blocks, files)?;
-    Ok(paper.image)
+    paper.put_all(rt, blocks, files);
+    paper.image
 }

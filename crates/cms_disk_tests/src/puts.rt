@@ -2,14 +2,15 @@
 ghost use Rattle.std.specs.Prelude.{IfOk, IfSome};
 ghost use Rattle.cms_model.specs.Records.{IsValid};
 
-use crate::disk::{access_of, letters, minidisk};
-use cms_cases::{told, word};
+use crate::disk::{access_of, minidisk, push_letters};
+use cms_cases::{Report, word};
 use cms_disk::{DiskFault, FileData, Minidisk, Stored};
 use cms_fields::Stamp;
 use cms_images::{Disk, Event, START, file_named, image_named, world_of};
 use cms_names::{Format, Name};
 use cms_world::Access;
 use std::alloc::{AllocError, Global};
+use std::process::Abort;
 
 /// Whether a file is put or its records are added to themselves, what the minidisk is accessed for, its image, the file that is put, and
 /// the letters of the names that get it one after another: the answer to the last, the files, the free blocks, the blocks that were
@@ -140,131 +141,99 @@ fn all_on(
     Ok(())
 }
 
-// The bytes of the file of the last letter, or why there are none.
-fn bytes_of(
-    alloc: Global,
-    world: &mut Disk,
-    disk: &Minidisk,
-    letters: &str,
-) -> Result<String, AllocError> {
+// Adds the bytes of the file of the last letter, or why there are none.
+fn push_bytes(into: &mut Report, alloc: Global, world: &mut Disk, disk: &Minidisk, letters: &str) {
     let Some(name) = file_named(letters.split(' ').last().unwrap_or("")) else {
-        return Ok(String::new(alloc));
+        return;
     };
     match disk.get(alloc, world, &name) {
-        Ok(file) => told(alloc, &file.bytes.bytes()),
-        Err(fault) => told(alloc, &fault),
+        Ok(file) => into.value(&file.bytes.bytes()),
+        Err(fault) => into.value(&fault),
     }
 }
 
-// The answer, the files, the free blocks, and the blocks that were written.
-fn counts(
-    alloc: Global,
-    world: &Disk,
-    disk: &Minidisk,
-    answer: Result<(), DiskFault>,
-) -> Result<String, AllocError> {
-    let files = letters(alloc, disk)?;
-    let (free, writes) = (disk.space().free, world.writes);
-    format!(in alloc; "{answer:?} [{files}] {free} {writes}")
-}
-
-// Whether the image is that of A FILE as a system would put it.
-fn is_one_file(alloc: Global, world: &Disk) -> Result<bool, AllocError> {
-    Ok(world.image == image_named(alloc, "one file")?)
-}
-
-// What is told of a minidisk behind an answer.
-fn told_of(
+// Adds the files, the free blocks, the blocks that were written, the last file's bytes, and whether the image is that of A FILE as a system
+// would put it.
+fn push_told<R: Abort>(
+    into: &mut Report,
+    rt: &R,
     alloc: Global,
     world: &mut Disk,
     disk: &Minidisk,
-    answer: Result<(), DiskFault>,
     case: &str,
-) -> Result<String, AllocError> {
-    let counts = counts(alloc, world, disk, answer)?;
-    let bytes = bytes_of(alloc, world, disk, word(case, 4))?;
-    format!(in alloc; "{counts} {bytes} {}", is_one_file(alloc, world)?)
+) {
+    into.push_str(" [");
+    push_letters(into, disk);
+    write!(into, "] {} {} ", disk.space().free, world.writes);
+    push_bytes(into, alloc, world, disk, word(case, 4));
+    let one_file = image_named(alloc, "one file").expect(rt, "memory");
+    write!(into, " {}", world.image == one_file)
 }
 
-// The blocks that were written, in order, with `s` for each sync.
-fn blocks_of(alloc: Global, world: &Disk) -> Result<String, AllocError> {
-    let mut text = String::new(alloc);
+// Adds the blocks that were written, in order, with `s` for each sync.
+fn push_blocks(into: &mut Report, world: &Disk) {
     for event in world.events() {
         match event {
-            Event::Wrote { block, .. } => write!(text, " {block}")?,
-            Event::Synced => text.push_str(" s")?,
+            Event::Wrote { block, .. } => write!(into, " {block}"),
+            Event::Synced => into.push_str(" s"),
         }
     }
-    Ok(text)
-}
-
-// What is told where what is asked of the world is kept: the answer, and the blocks.
-fn told_logged(
-    alloc: Global,
-    world: &Disk,
-    answer: Result<(), DiskFault>,
-) -> Result<String, AllocError> {
-    let blocks = blocks_of(alloc, world)?;
-    format!(in alloc; "{answer:?}{blocks}")
 }
 
 // What is done with a minidisk and a file.
-fn done(
+fn tell_done<R: Abort>(
+    into: &mut Report,
+    rt: &R,
     alloc: Global,
     world: &mut Disk,
     disk: &mut Minidisk,
     case: &str,
     file: &FileData,
-) -> Result<String, AllocError>
+)
     requires { IsValid file.now }
 {
-    let answer = all_on(alloc, world, disk, case, file);
+    into.value(&all_on(alloc, world, disk, case, file));
     match word(case, 1) {
-        "logged" => told_logged(alloc, world, answer),
-        _ => told_of(alloc, world, disk, answer, case),
+        "logged" => push_blocks(into, world),
+        _ => push_told(into, rt, alloc, world, disk, case),
     }
 }
 
 // The same on the unit of a world, or why there is no minidisk.
-fn done_with(
+fn tell_in<R: Abort>(
+    into: &mut Report,
+    rt: &R,
     alloc: Global,
     world: &mut Disk,
     case: &str,
     file: &FileData,
-) -> Result<String, AllocError>
+)
     requires { IsValid file.now }
 {
     match minidisk(alloc, world, access_of(word(case, 1))) {
         Ok(mut disk) => {
-            let told = done(alloc, world, &mut disk, case, file);
-            drop(disk);
-            told
+            tell_done(into, rt, alloc, world, &mut disk, case, file);
+            drop(disk)
         }
-        Err(fault) => told(alloc, &fault),
-    }
-}
-
-// What a case comes to in a world.
-fn answer_in(alloc: Global, world: &mut Disk, case: &str) -> Result<String, AllocError> {
-    match file_of(alloc, word(case, 3)) {
-        Some(file) => done_with(alloc, world, case, &file),
-        None => String::from_str(alloc, "no file"),
+        Err(fault) => into.value(&fault),
     }
 }
 
 // The world of a case.
-fn world_of_case(alloc: Global, case: &str) -> Result<Disk, AllocError> {
-    let image = image_named(alloc, word(case, 2))?;
+fn world_of_case<R: Abort>(rt: &R, alloc: Global, case: &str) -> Disk {
+    let image = image_named(alloc, word(case, 2)).expect(rt, "memory");
     match word(case, 1) {
-        "logged" => Disk::logged(alloc, &image),
-        _ => Ok(world_of(image)),
+        "logged" => Disk::logged(alloc, &image).expect(rt, "memory"),
+        _ => world_of(image),
     }
 }
 
-/// What a case comes to.
-pub fn answer(alloc: Global, case: &str) -> Result<String, AllocError> {
-    let mut world = world_of_case(alloc, case)?;
-    let answer = answer_in(alloc, &mut world, case);
-    drop(world);
-    answer
+/// Tells what a case comes to.
+pub fn tell<R: Abort>(into: &mut Report, rt: &R, alloc: Global, case: &str) {
+    let mut world = world_of_case(rt, alloc, case);
+    match file_of(alloc, word(case, 3)) {
+        Some(file) => tell_in(into, rt, alloc, &mut world, case, &file),
+        None => into.push_str("no file"),
+    }
+    drop(world)
 }

@@ -1,6 +1,6 @@
 // Minidisks that are accessed, and files that are read.
-use crate::disk::{info_of, letters, minidisk};
-use cms_cases::{number, told, word};
+use crate::disk::{info_of, minidisk, push_letters};
+use cms_cases::{Report, number, word};
 use cms_disk::{AccessFault, Cursor, DiskFault, FileData, Minidisk};
 use cms_ebcdic::to_host;
 use cms_images::known::put;
@@ -9,7 +9,8 @@ use cms_images::{
 };
 use cms_names::{Format, Name};
 use cms_world::{Access, MemWorld, World};
-use std::alloc::{AllocError, Global};
+use std::alloc::Global;
+use std::process::Abort;
 
 /// What is asked:
 ///
@@ -90,31 +91,24 @@ fn next(world: &mut Disk, cursor: &mut Cursor) -> Result<usize, DiskFault> {
 }
 
 // The calls of the world, and the lengths of so many records with the calls behind each.
-fn lengths(
-    alloc: Global,
-    world: &mut Disk,
-    cursor: &mut Cursor,
-    count: u32,
-) -> Result<String, AllocError> {
-    let mut text = told(alloc, &world.calls)?;
+fn push_lengths(into: &mut Report, world: &mut Disk, cursor: &mut Cursor, count: u32) {
+    into.value(&world.calls);
     for _ in 0..count {
         let length = next(world, cursor);
-        write!(text, " {length:?} {}", world.calls)?;
+        write!(into, " {length:?} {}", world.calls);
     }
-    Ok(text)
 }
 
 // What comes of V FILE in a world.
-fn records(alloc: Global, world: &mut Disk, case: &str) -> Result<String, AllocError> {
+fn tell_records(into: &mut Report, alloc: Global, world: &mut Disk, case: &str) {
     world.failing = number(word(case, 1)) as usize;
     world.altering = number(word(case, 2)) as usize;
     match cursor_on(alloc, world) {
         Some(mut cursor) => {
-            let told = lengths(alloc, world, &mut cursor, number(word(case, 3)));
-            drop(cursor);
-            told
+            push_lengths(into, world, &mut cursor, number(word(case, 3)));
+            drop(cursor)
         }
-        None => String::from_str(alloc, "no cursor"),
+        None => into.push_str("no cursor"),
     }
 }
 
@@ -128,19 +122,12 @@ const FIXED: &[Edit] = &[
     (9, 12, &[0, 0, 0, 0, 0, 0, 0, 0, 0, 0, 0, 0]),
 ];
 
-// A volume with such a file; each record is one digit, 100 times.
-fn digits(alloc: Global) -> Result<Vec<u8>, AllocError> {
-    let mut image = image_named(alloc, "spanning")?;
-    put_edits(image.as_mut_slice(), FIXED);
+// Makes V FILE such a file; each record is one digit, 100 times.
+fn put_digits(image: &mut [u8]) {
+    put_edits(image, FIXED);
     for place in 0..1_000 {
-        put(
-            image.as_mut_slice(),
-            7,
-            place,
-            &[0xF0 + (place / 100 % 10) as u8],
-        );
+        put(image, 7, place, &[0xF0 + (place / 100 % 10) as u8]);
     }
-    Ok(image)
 }
 
 // A cursor on a file of records of one length, behind so many of these.
@@ -188,29 +175,27 @@ fn next_digit(world: &mut Disk, cursor: &mut Cursor) -> char {
 }
 
 // The calls before, those behind the first record, the digits of all records that are left, and the calls at last.
-fn digits_left(alloc: Global, world: &mut Disk, cursor: &mut Cursor) -> Result<String, AllocError> {
+fn push_digits(into: &mut Report, world: &mut Disk, cursor: &mut Cursor) {
     let before = world.calls;
     let mut digit = next_digit(world, cursor);
-    let first = world.calls;
-    let mut text = String::new(alloc);
+    write!(into, "{before} {} [", world.calls);
     for _ in 0..12 {
         if digit != ' ' {
-            text.push(digit)?;
+            into.push(digit);
             digit = next_digit(world, cursor);
         }
     }
-    format!(in alloc; "{before} {first} [{text}] {}", world.calls)
+    write!(into, "] {}", world.calls)
 }
 
 // What comes where so many records are passed over.
-fn passed_over(alloc: Global, world: &mut Disk, count: u32) -> Result<String, AllocError> {
+fn tell_passed_over(into: &mut Report, alloc: Global, world: &mut Disk, count: u32) {
     match cursor_behind(alloc, world, count) {
         Some(mut cursor) => {
-            let told = digits_left(alloc, world, &mut cursor);
-            drop(cursor);
-            told
+            push_digits(into, world, &mut cursor);
+            drop(cursor)
         }
-        None => String::from_str(alloc, "no cursor"),
+        None => into.push_str("no cursor"),
     }
 }
 
@@ -229,45 +214,36 @@ fn file_of(alloc: Global, world: &mut Disk, letter: &str) -> Option<Result<FileD
 
 // The length, the count and the mode number of a file that was read, its stored bytes, whether they stand in the blocks from 7 on, and the
 // calls.
-fn told_whole(alloc: Global, file: &FileData, world: &Disk) -> Result<String, AllocError> {
+fn push_whole(into: &mut Report, file: &FileData, world: &Disk) {
     let bytes = file.bytes.bytes();
     let is_stored = world.image.get(3072..).unwrap_or(&[]).starts_with(bytes);
     let numbers = (file.length, file.count, file.number, bytes.len(), is_stored);
-    format!(in alloc; "{numbers:?} {}", world.calls)
+    write!(into, "{numbers:?} {}", world.calls)
 }
 
-// What is told of a file that was read, all of it or its bytes.
-fn told_file(
-    alloc: Global,
-    file: &FileData,
-    world: &Disk,
-    case: &str,
-) -> Result<String, AllocError> {
-    match word(case, 0) {
-        "whole" => told_whole(alloc, file, world),
-        _ => told(alloc, &file.bytes.bytes()),
-    }
-}
-
-// The same of a file that is read in a world, or why it isn't.
-fn read_in(alloc: Global, world: &mut Disk, case: &str) -> Result<String, AllocError> {
+// A file that is read in a world, all of it or its bytes, or why it isn't.
+fn tell_file(into: &mut Report, alloc: Global, world: &mut Disk, case: &str) {
     match file_of(alloc, world, word(case, 2)) {
-        Some(Ok(file)) => told_file(alloc, &file, world, case),
-        Some(Err(fault)) => told(alloc, &fault),
-        None => String::from_str(alloc, "no minidisk"),
+        Some(Ok(file)) => match word(case, 0) {
+            "whole" => push_whole(into, &file, world),
+            _ => into.value(&file.bytes.bytes()),
+        },
+        Some(Err(fault)) => into.value(&fault),
+        None => into.push_str("no minidisk"),
     }
 }
 
 // What is told of a minidisk with a file.
-fn told_of(alloc: Global, disk: &Minidisk) -> Result<String, AllocError> {
+fn push_told(into: &mut Report, disk: &Minidisk) {
     if disk.count() == 0 {
-        return String::from_str(alloc, "no file");
+        return into.push_str("no file");
     }
-    let files = letters(alloc, disk)?;
     let (info, space) = (disk.info(0), disk.space());
     let first = (info.length, info.count, info.blocks);
     let room = (space.bsize, space.total, space.free);
-    format!(in alloc; "[{files}] {first:?} {room:?}")
+    into.push('[');
+    push_letters(into, disk);
+    write!(into, "] {first:?} {room:?}")
 }
 
 // The stored bytes of the first file.
@@ -295,24 +271,23 @@ fn change(world: &mut Disk, case: &str) {
 }
 
 // What is asked of a minidisk.
-fn asked_of(alloc: Global, disk: &Minidisk, case: &str) -> Result<String, AllocError> {
+fn push_asked(into: &mut Report, disk: &Minidisk, case: &str) {
     match word(case, 0) {
-        "told" => told_of(alloc, disk),
-        "stored" => told(alloc, &first_stored(disk)),
-        _ => told(alloc, &place_of(disk, word(case, 2))),
+        "told" => push_told(into, disk),
+        "stored" => into.value(&first_stored(disk)),
+        _ => into.value(&place_of(disk, word(case, 2))),
     }
 }
 
 // What is asked of the minidisk of a case, or why there is none.
-fn asked(alloc: Global, world: &mut Disk, case: &str) -> Result<String, AllocError> {
+fn tell_asked(into: &mut Report, alloc: Global, world: &mut Disk, case: &str) {
     change(world, case);
     match minidisk(alloc, world, Access::ReadOnly) {
         Ok(disk) => {
-            let answer = asked_of(alloc, &disk, case);
-            drop(disk);
-            answer
+            push_asked(into, &disk, case);
+            drop(disk)
         }
-        Err(fault) => told(alloc, &fault),
+        Err(fault) => into.value(&fault),
     }
 }
 
@@ -333,48 +308,44 @@ fn access_in_doubt(alloc: Global, world: &mut MemWorld) -> Option<AccessFault> {
     }
 }
 
-// What comes of an access in doubt in a world.
-fn doubt(alloc: Global, world: &mut MemWorld) -> Result<String, AllocError> {
-    let fault = access_in_doubt(alloc, world);
-    format!(in alloc; "{fault:?} {} {}", calls_of(world), world.events())
-}
-
-// The same where a call of the world fails.
-fn doubt_told(alloc: Global, failing: u32) -> Result<String, AllocError> {
-    let image = image_named(alloc, "one file")?;
-    let mut world = world_with(alloc, &image, failing, false)?;
-    let told = doubt(alloc, &mut world);
-    drop(world);
-    told
+// What comes of an access in doubt in a world where a call fails.
+fn tell_doubt<R: Abort>(into: &mut Report, rt: &R, alloc: Global, failing: u32) {
+    let image = image_named(alloc, "one file").expect(rt, "memory");
+    let mut world = world_with(alloc, &image, failing, false).expect(rt, "memory");
+    let fault = access_in_doubt(alloc, &mut world);
+    write!(into, "{fault:?} {} {}", calls_of(&world), world.events());
+    drop(world)
 }
 
 // The world of a case.
-fn world_of_case(alloc: Global, case: &str) -> Result<Disk, AllocError> {
-    let image = match word(case, 0) {
-        "next" => image_named(alloc, "spanning")?,
-        "skip" => digits(alloc)?,
-        _ => image_named(alloc, word(case, 1))?,
+fn world_of_case<R: Abort>(rt: &R, alloc: Global, case: &str) -> Disk {
+    let name = match word(case, 0) {
+        "next" | "skip" => "spanning",
+        _ => word(case, 1),
     };
-    Ok(world_of(image))
+    let mut image = image_named(alloc, name).expect(rt, "memory");
+    if word(case, 0) == "skip" {
+        put_digits(image.as_mut_slice());
+    }
+    world_of(image)
 }
 
 // What a case comes to in the world of its image.
-fn answer_in(alloc: Global, world: &mut Disk, case: &str) -> Result<String, AllocError> {
+fn tell_in(into: &mut Report, alloc: Global, world: &mut Disk, case: &str) {
     match word(case, 0) {
-        "next" => records(alloc, world, case),
-        "skip" => passed_over(alloc, world, number(word(case, 1))),
-        "whole" | "get" => read_in(alloc, world, case),
-        _ => asked(alloc, world, case),
+        "next" => tell_records(into, alloc, world, case),
+        "skip" => tell_passed_over(into, alloc, world, number(word(case, 1))),
+        "whole" | "get" => tell_file(into, alloc, world, case),
+        _ => tell_asked(into, alloc, world, case),
     }
 }
 
-/// What a case comes to.
-pub fn answer(alloc: Global, case: &str) -> Result<String, AllocError> {
+/// Tells what a case comes to.
+pub fn tell<R: Abort>(into: &mut Report, rt: &R, alloc: Global, case: &str) {
     if word(case, 0) == "doubt" {
-        return doubt_told(alloc, number(word(case, 1)));
+        return tell_doubt(into, rt, alloc, number(word(case, 1)));
     }
-    let mut world = world_of_case(alloc, case)?;
-    let answer = answer_in(alloc, &mut world, case);
-    drop(world);
-    answer
+    let mut world = world_of_case(rt, alloc, case);
+    tell_in(into, alloc, &mut world, case);
+    drop(world)
 }

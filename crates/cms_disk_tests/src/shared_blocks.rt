@@ -5,13 +5,14 @@ ghost use Rattle.cms_model.specs.Records.{IsValid};
 
 use crate::disk::minidisk;
 use crate::filed::volume_of;
-use cms_cases::{number, told, word};
+use cms_cases::{Report, number, word};
 use cms_disk::{DiskFault, FileData, FileInfo, Minidisk};
 use cms_fields::Stamp;
 use cms_images::{Disk, Event, file_named, put_texts, world_of};
 use cms_names::{Format, Name};
 use cms_world::Access;
-use std::alloc::{AllocError, Global};
+use std::alloc::Global;
+use std::process::Abort;
 
 /// How many blocks a volume has, its files, bytes that are changed in it then, and an update of it, with files by their places: `add 0 1`
 /// adds the records of the second file to the first, and `unread 0 1` does so in a world whose next read fails; `put 0` puts the first
@@ -250,62 +251,58 @@ fn change(
 }
 
 // Adds the blocks from one to another; there are none where that is 0.
-fn push_run(into: &mut String, first: u32, last: u32) -> Result<(), AllocError> {
-    if last == 0 {
-        Ok(())
-    } else if first == last {
-        write!(into, " {first}")
-    } else {
-        write!(into, " {first}-{last}")
+fn push_run(into: &mut Report, first: u32, last: u32) {
+    match last {
+        0 => {}
+        _ if first == last => write!(into, " {first}"),
+        _ => write!(into, " {first}-{last}"),
     }
 }
 
 // The blocks that follow one another up to this one. If it doesn't follow them they are added, and `s` where it is 0, a sync.
-fn next_run(
-    into: &mut String,
-    (first, last): (u32, u32),
-    block: u32,
-) -> Result<(u32, u32), AllocError> {
+fn next_run(into: &mut Report, (first, last): (u32, u32), block: u32) -> (u32, u32) {
     if last > 0 && block == last.saturating_add(1) {
-        return Ok((first, block));
+        return (first, block);
     }
-    push_run(into, first, last)?;
-    into.push_str(if block == 0 { " s" } else { "" })?;
-    Ok((block, block))
+    push_run(into, first, last);
+    into.push_str(if block == 0 { " s" } else { "" });
+    (block, block)
 }
 
-// The blocks that were written, in order, with `s` for each sync; those that follow one another as the first and the last.
-fn written(alloc: Global, events: &[Event]) -> Result<String, AllocError> {
-    let mut text = String::new(alloc);
+// Adds the blocks that were written, in order, with `s` for each sync; those that follow one another as the first and the last. A comma
+// stands before the first.
+fn push_written(into: &mut Report, events: &[Event]) {
+    if !events.is_empty() {
+        into.push(',');
+    }
     let mut run = (0, 0);
     for event in events {
         let block = match event {
             Event::Wrote { block, .. } => *block,
             Event::Synced => 0,
         };
-        run = next_run(&mut text, run, block)?;
+        run = next_run(into, run, block);
     }
-    Ok(text)
 }
 
 // How many files a minidisk has, how many blocks are free, the stored bytes of the first file, and whether there is Z FILE.
-fn state_of(alloc: Global, disk: &Minidisk) -> Result<String, AllocError> {
+fn push_state_of(into: &mut Report, disk: &Minidisk) {
     let stored = if disk.count() > 0 { disk.stored(0) } else { 0 };
     let has_new = file_named("Z").map_or(false, |name| disk.has(&name));
-    told(alloc, &(disk.count(), disk.space().free, stored, has_new))
+    into.value(&(disk.count(), disk.space().free, stored, has_new))
 }
 
 // What an image opens as: how many files it has, how many blocks are free, the stored bytes of the first file, and whether there is Z FILE.
-fn state(alloc: Global, image: Vec<u8>) -> Result<String, AllocError> {
+fn state(alloc: Global, image: Vec<u8>) -> Report {
+    let mut state = Report::new(alloc);
     let mut world = world_of(image);
-    let state = match minidisk(alloc, &mut world, Access::ReadOnly) {
+    match minidisk(alloc, &mut world, Access::ReadOnly) {
         Ok(disk) => {
-            let state = state_of(alloc, &disk);
-            drop(disk);
-            state
+            push_state_of(&mut state, &disk);
+            drop(disk)
         }
-        Err(fault) => told(alloc, &fault),
-    };
+        Err(fault) => state.value(&fault),
+    }
     drop(world);
     state
 }
@@ -314,35 +311,47 @@ fn state(alloc: Global, image: Vec<u8>) -> Result<String, AllocError> {
 const LARGE: usize = 400 * 512;
 
 // Whether a crash behind so many events, with all that was written or no more than what was synced, leaves what is wanted.
-fn is_left(
+fn is_left<R: Abort>(
+    rt: &R,
     alloc: Global,
     world: &Disk,
     at: usize,
     all: bool,
     wanted: &str,
-) -> Result<bool, AllocError> {
-    Ok(state(alloc, world.crash(alloc, at, all)?)?.as_str() == wanted)
+) -> bool {
+    let left = world.crash(alloc, at, all).expect(rt, "memory");
+    state(alloc, left).text() == wanted
 }
 
-// Adds whether each crash from so many events on leaves what stood before, or once the label is written what stands then.
-fn push_crashes(
-    into: &mut String,
+// Whether a crash behind so many events leaves what stood before, or once the label is written what stands then.
+fn is_old_or_new<R: Abort>(
+    rt: &R,
+    alloc: Global,
+    world: &Disk,
+    at: usize,
+    (old, new): (&str, &str),
+) -> bool {
+    let count = world.events().len();
+    let synced = if at == count { new } else { old };
+    let written = if at.saturating_add(1) >= count {
+        new
+    } else {
+        old
+    };
+    is_left(rt, alloc, world, at, false, synced) && is_left(rt, alloc, world, at, true, written)
+}
+
+// Adds whether each crash from so many events on leaves the old or the new.
+fn push_crashes<R: Abort>(
+    into: &mut Report,
+    rt: &R,
     alloc: Global,
     world: &Disk,
     first: usize,
     (old, new): (&str, &str),
-) -> Result<(), AllocError> {
-    let count = world.events().len();
-    for at in first..count.saturating_add(1) {
-        let synced = if at == count { new } else { old };
-        let written = if at.saturating_add(1) >= count {
-            new
-        } else {
-            old
-        };
-        if !is_left(alloc, world, at, false, synced)?
-            || !is_left(alloc, world, at, true, written)?
-        {
+) {
+    for at in first..world.events().len().saturating_add(1) {
+        if !is_old_or_new(rt, alloc, world, at, (old, new)) {
             return write!(into, "behind {at} neither {old} nor {new}");
         }
     }
@@ -350,16 +359,16 @@ fn push_crashes(
 }
 
 // The same from the first event on, or in a large image from the one before the last.
-fn push_left(into: &mut String, alloc: Global, world: &Disk) -> Result<(), AllocError> {
+fn push_left<R: Abort>(into: &mut Report, rt: &R, alloc: Global, world: &Disk) {
     let count = world.events().len();
     if count == 0 {
         return into.push_str("old");
     }
-    let old = state(alloc, world.crash(alloc, 0, false)?)?;
-    let new = state(alloc, world.image.to_vec(alloc)?)?;
+    let old = state(alloc, world.crash(alloc, 0, false).expect(rt, "memory"));
+    let new = state(alloc, world.image.to_vec(alloc).expect(rt, "memory"));
     let is_large = world.image.len() > LARGE;
     let first = if is_large { count.saturating_sub(1) } else { 0 };
-    push_crashes(into, alloc, world, first, (old.as_str(), new.as_str()))
+    push_crashes(into, rt, alloc, world, first, (old.text(), new.text()))
 }
 
 // So many bytes that stand at a place of a block.
@@ -376,78 +385,61 @@ fn bytes_at<'a>(image: &'a [u8], text: &str) -> &'a [u8] {
 }
 
 // Adds the answer, how many blocks were read, those that were written, and how many are free.
-fn push_front(
-    into: &mut String,
-    alloc: Global,
-    world: &Disk,
-    disk: &Minidisk,
-    done: &Done,
-) -> Result<(), AllocError> {
-    let blocks = written(alloc, world.events())?;
-    let comma = if blocks.is_empty() { "" } else { "," };
-    let (answer, reads, free) = (&done.answer, done.reads, disk.space().free);
+fn push_front(into: &mut Report, world: &Disk, disk: &Minidisk, done: &Done) {
+    write!(into, "{:?} {} read", &done.answer, done.reads);
+    push_written(into, world.events());
     let other = if done.is_whole { "" } else { ", other bytes" };
-    write!(
-        into,
-        "{answer:?} {reads} read{comma}{blocks}, {free} free{other}, "
-    )
+    write!(into, ", {} free{other}, ", disk.space().free)
 }
 
 // Adds what is told of an update.
-fn push_done(
-    into: &mut String,
+fn push_done<R: Abort>(
+    into: &mut Report,
+    rt: &R,
     alloc: Global,
     world: &Disk,
     disk: &Minidisk,
     done: &Done,
     look: &str,
-) -> Result<(), AllocError> {
-    push_front(into, alloc, world, disk, done)?;
-    push_left(into, alloc, world)?;
-    if look.is_empty() {
-        return Ok(());
+) {
+    push_front(into, world, disk, done);
+    push_left(into, rt, alloc, world);
+    if !look.is_empty() {
+        write!(into, ", {:?}", bytes_at(&world.image, look))
     }
-    write!(into, ", {:?}", bytes_at(&world.image, look))
 }
 
-// The same alone.
-fn told_of(
+// Does with a minidisk what is asked, and tells what comes of it.
+fn tell_asked<R: Abort>(
+    into: &mut Report,
+    rt: &R,
     alloc: Global,
-    world: &Disk,
-    disk: &Minidisk,
-    done: &Done,
+    world: &mut Disk,
+    disk: &mut Minidisk,
     case: &str,
-) -> Result<String, AllocError> {
-    let mut text = String::new(alloc);
-    push_done(&mut text, alloc, world, disk, done, word(case, 4))?;
-    Ok(text)
-}
-
-// The image of a case.
-fn image_of(alloc: Global, case: &str) -> Result<Vec<u8>, AllocError> {
-    let mut image = volume_of(alloc, number(word(case, 0)).min(10_000), word(case, 1))?;
-    put_texts(image.as_mut_slice(), word(case, 2));
-    Ok(image)
-}
-
-/// What a case comes to.
-pub fn answer(alloc: Global, case: &str) -> Result<String, AllocError> {
-    let mut world = Disk::logged(alloc, &image_of(alloc, case)?)?;
+) {
     let mut words = word(case, 3).split(' ');
     let asked = words.next().unwrap_or("");
     let place = number(words.next().unwrap_or(""));
     let other = words.next().map_or(place, number);
-    let answer = match minidisk(alloc, &mut world, Access::ReadWrite) {
+    match change(alloc, world, disk, asked, place, other) {
+        Ok(done) => push_done(into, rt, alloc, world, disk, &done, word(case, 4)),
+        Err(fault) => into.value(&fault),
+    }
+}
+
+/// Tells what a case comes to.
+pub fn tell<R: Abort>(into: &mut Report, rt: &R, alloc: Global, case: &str) {
+    let blocks = number(word(case, 0)).min(10_000);
+    let mut image = volume_of(rt, alloc, blocks, word(case, 1));
+    put_texts(image.as_mut_slice(), word(case, 2));
+    let mut world = Disk::logged(alloc, &image).expect(rt, "memory");
+    match minidisk(alloc, &mut world, Access::ReadWrite) {
         Ok(mut disk) => {
-            let answer = match change(alloc, &mut world, &mut disk, asked, place, other) {
-                Ok(done) => told_of(alloc, &world, &disk, &done, case),
-                Err(fault) => told(alloc, &fault),
-            };
-            drop(disk);
-            answer
+            tell_asked(into, rt, alloc, &mut world, &mut disk, case);
+            drop(disk)
         }
-        Err(fault) => told(alloc, &fault),
-    };
-    drop(world);
-    answer
+        Err(fault) => into.value(&fault),
+    }
+    drop(world)
 }

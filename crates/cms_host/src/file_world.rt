@@ -20,9 +20,6 @@ use std::alloc::{AllocError, Global};
 use std::io;
 use std::io::ErrorKind;
 
-#[cfg(test)]
-mod tests;
-
 /// A world over real files: a unit is an image file, the console is standard input and output, and the clock is the
 /// system's. It keeps no journal.
 ///
@@ -69,6 +66,21 @@ impl<S: System + Drop> FileWorld<S> {
     /// What failed last: a call other than on a unit before all others.
     pub fn trouble(&self) -> Option<&Trouble> {
         self.trouble.as_ref()
+    }
+
+    /// The system that is asked.
+    pub fn system(&self) -> &S
+        ensures { result.now ≡ self.now.system }
+    {
+        &self.system
+    }
+
+    /// How many calls on units failed, and how many others.
+    pub fn failures(&self) -> (u64, u64)
+        ensures faults { result.0 ≡ self.now.faults }
+        ensures edges { result.1 ≡ self.now.edges }
+    {
+        (self.faults, self.edges)
     }
 
     /// How many units were attached.

@@ -11,9 +11,6 @@ use std::path::Path;
 use std::time::Clock;
 use std::{fs, io};
 
-#[cfg(test)]
-pub(crate) mod tests;
-
 /// How often a call that a signal interrupted is made again.
 const TRIES: u32 = 1_000_000;
 
@@ -33,8 +30,8 @@ pub fn hold_streams<R: Files<File = File>>(rt: &R) -> io::Result<[File; 3]> {
     ])
 }
 
-// Reads once, again where a signal interrupted it: no bytes are the end.
-fn read_some<I: Read>(input: &mut I, into: &mut [u8]) -> Option<usize>
+/// Reads once, again where a signal interrupted it: no bytes are the end.
+pub fn read_some<I: Read>(input: &mut I, into: &mut [u8]) -> Option<usize>
     ensures { IfSome result (λ n. n ≤ length into.old) }
 {
     for _ in 0..TRIES {
@@ -47,8 +44,8 @@ fn read_some<I: Read>(input: &mut I, into: &mut [u8]) -> Option<usize>
     None
 }
 
-// Writes at least one byte, from the front, again where a signal interrupted it.
-fn write_some<P: Print>(output: &P, from: &[u8]) -> Option<usize>
+/// Writes at least one byte, from the front, again where a signal interrupted it.
+pub fn write_some<P: Print>(output: &P, from: &[u8]) -> Option<usize>
     ensures { IfSome result (λ n. (0 < n) × (n ≤ length from.now)) }
 {
     for _ in 0..TRIES {
@@ -111,8 +108,8 @@ fn lock_file(file: &File, sharing: Sharing) -> io::Result<Lock> {
     }
 }
 
-// The folder that holds a name.
-fn folder_of(name: &str) -> &str {
+/// The folder that holds a name.
+pub fn folder_of(name: &str) -> &str {
     match Path::new(name).parent() {
         Some(folder) if !folder.as_str().is_empty() => folder.as_str(),
         _ => ".",
@@ -124,8 +121,8 @@ fn sync_folder_of<R: Files<File = File>>(rt: &R, name: &str) -> io::Result<()> {
     File::open(rt, folder_of(name))?.sync_all()
 }
 
-// The seconds since 1970-01-01 00:00:00 UTC, 0 before that.
-fn seconds<C: Clock>(clock: &C) -> Option<i64> {
+/// The seconds since 1970-01-01 00:00:00 UTC, 0 before that.
+pub fn seconds<C: Clock>(clock: &C) -> Option<i64> {
     match clock.since_1970() {
         Ok(time) => i64::try_from(time.as_secs()).ok(),
         // the clock was read, and stands before 1970
@@ -184,8 +181,8 @@ impl<R: Files<File = File> + io::Input + Print + Eprint + Clock + Drop> Host<R> 
         }
     }
 
-    // Keeps a file that is open: its number.
-    fn keep(&mut self, file: File, name: &str) -> Result<usize, AllocError> {
+    /// Keeps a file that is open: its number.
+    pub fn keep(&mut self, file: File, name: &str) -> Result<usize, AllocError> {
         let number = self.files.len();
         let name = String::from_str(self.alloc, name)?;
         self.files.push(Opened { file, name })?;

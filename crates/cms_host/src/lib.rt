@@ -5,14 +5,12 @@
 mod file_unit;
 mod file_world;
 mod host;
-#[cfg(test)]
-mod logged;
 mod output;
 mod read_ahead;
 mod system;
 mod trouble;
 
 pub use file_world::FileWorld;
-pub use host::{FOLDER, Host, hold_streams};
+pub use host::{FOLDER, Host, folder_of, hold_streams, read_some, seconds, write_some};
 pub use system::{Deed, Lock, Sharing, System, Warning};
 pub use trouble::Trouble;

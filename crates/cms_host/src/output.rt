@@ -6,9 +6,6 @@ use crate::system::System;
 use std::alloc::{AllocError, Global};
 use std::marker::Model;
 
-#[cfg(test)]
-mod tests;
-
 /// How many bytes are gathered.
 const ROOM: usize = 65_536;
 

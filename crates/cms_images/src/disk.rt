@@ -38,8 +38,7 @@ pub struct Disk {
     log: Option<Log>,
 }
 
-/// A world of a unit with this image.
-pub fn world_of(image: Vec<u8>) -> Disk {
+fn with_log(image: Vec<u8>, log: Option<Log>) -> Disk {
     Disk {
         image,
         calls: 0,
@@ -47,21 +46,26 @@ pub fn world_of(image: Vec<u8>) -> Disk {
         altering: 0,
         failures: 0,
         writes: 0,
-        log: None,
+        log,
     }
+}
+
+/// A world of a unit with this image.
+pub fn world_of(image: Vec<u8>) -> Disk {
+    with_log(image, None)
 }
 
 impl Disk {
     /// A world of a unit with this image, in which what is asked is kept.
     pub fn logged(alloc: Global, image: &[u8]) -> Result<Disk, AllocError> {
+        let before = image.to_vec(alloc)?;
+        let image = image.to_vec(alloc)?;
         let log = Log {
             alloc,
-            before: image.to_vec(alloc)?,
+            before,
             events: Vec::new(alloc),
         };
-        let mut disk = world_of(image.to_vec(alloc)?);
-        disk.log = Some(log);
-        Ok(disk)
+        Ok(with_log(image, Some(log)))
     }
 
     /// What was asked of it, in order.

@@ -120,7 +120,7 @@ R(00024);
 
 #[test]
 fn disks_are_accessed(rt: HostRuntime) -> Result<(), Fail> {
-    check_sessions(rt.alloc(), &[ACCESSED])
+    check_sessions(&rt, rt.alloc(), &[ACCESSED])
 }
 
 // An erasure may come to a doubt, which an access ends.
@@ -203,5 +203,5 @@ R(00028);
 
 #[test]
 fn a_doubt_ends_with_an_access(rt: HostRuntime) -> Result<(), Fail> {
-    check_trials(rt.alloc(), &[DOUBTED])
+    check_trials(&rt, rt.alloc(), &[DOUBTED])
 }

@@ -1,7 +1,8 @@
 // The cases of each module that has rows, and the test that tries them.
 use crate::{decks, edits, generated_scripts, lists};
-use cms_cases::{Subject, try_rows};
-use std::alloc::{AllocError, Global};
+use cms_cases::{Report, Subject, try_rows};
+use std::alloc::Global;
+use std::process::Abort;
 use std::test::Fail;
 
 // Whose cases they are.
@@ -21,18 +22,32 @@ const ROWS: &[(Cases, &str)] = &[
     (Cases::Lists, lists::ROWS),
 ];
 
-impl Subject for Cases {
-    fn answer(&self, alloc: Global, case: &str) -> Result<String, AllocError> {
-        match self {
-            Cases::Decks => decks::answer(alloc, case),
-            Cases::GeneratedScripts => generated_scripts::answer(alloc, case),
-            Cases::Edits => edits::answer(alloc, case),
-            Cases::Lists => lists::answer(alloc, case),
+// Who is asked for the answers: where there is no memory, or a case can't be made, the test ends.
+#[derive(Drop)]
+struct Asked<'a, R: Abort> {
+    rt: &'a R,
+    alloc: Global,
+}
+
+impl<R: Abort> Subject<Cases> for Asked<'_, R> {
+    fn tell(&self, kind: &Cases, case: &str, into: &mut Report) {
+        match kind {
+            Cases::Decks => decks::tell(into, self.rt, self.alloc, case),
+            Cases::GeneratedScripts => generated_scripts::tell(into, self.rt, self.alloc, case),
+            Cases::Edits => edits::tell(into, self.rt, self.alloc, case),
+            Cases::Lists => lists::tell(into, self.rt, self.alloc, case),
         }
     }
 }
 
 #[test]
 fn cases_have_their_answers(rt: HostRuntime) -> Result<(), Fail> {
-    try_rows(&rt, ROWS)
+    try_rows(
+        &rt,
+        &Asked {
+            rt: &rt,
+            alloc: rt.alloc(),
+        },
+        ROWS,
+    )
 }

@@ -157,7 +157,7 @@ R(00100);
 
 #[test]
 fn stamps_are_moved_and_kept(rt: HostRuntime) -> Result<(), Fail> {
-    check_sessions(rt.alloc(), &[MOVED, REFUSED])
+    check_sessions(&rt, rt.alloc(), &[MOVED, REFUSED])
 }
 
 // All of a directory of two blocks below a pointer block is written anew.
@@ -227,5 +227,5 @@ R(00036);
 
 #[test]
 fn a_crash_leaves_all_stamps_or_none(rt: HostRuntime) -> Result<(), Fail> {
-    check_trials(rt.alloc(), &[LONG])
+    check_trials(&rt, rt.alloc(), &[LONG])
 }

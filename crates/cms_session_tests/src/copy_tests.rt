@@ -691,5 +691,9 @@ R;
 
 #[test]
 fn files_are_copied(rt: HostRuntime) -> Result<(), Fail> {
-    check_sessions(rt.alloc(), &[COPIED, STEPS, LARGE, REFUSED, GROWN, CALLS])
+    check_sessions(
+        &rt,
+        rt.alloc(),
+        &[COPIED, STEPS, LARGE, REFUSED, GROWN, CALLS],
+    )
 }

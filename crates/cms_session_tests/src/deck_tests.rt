@@ -382,6 +382,7 @@ R;
 #[test]
 fn files_go_by_cards(rt: HostRuntime) -> Result<(), Fail> {
     check_sessions(
+        &rt,
         rt.alloc(),
         &[DUMPED, PUNCHED, WIDE, PIECES, FILLED, KEPT, REFUSED, RUN],
     )

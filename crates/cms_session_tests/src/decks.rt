@@ -1,7 +1,8 @@
 // Decks that are made by hand, and read as dumps.
 use cms_cards::{CARD, Card, Deck, read_deck, write_deck};
-use cms_cases::{number, told, word};
-use std::alloc::{AllocError, Global};
+use cms_cases::{Report, number, word};
+use std::alloc::Global;
+use std::process::Abort;
 
 /// `fixed/SIZE/COUNT`: the size and the number of the records of the file that is read from so many cards, on which a file with one record
 /// of so many bytes stands. `changed/read`: the places of a deck of one card at which another byte makes it the dump of another file;
@@ -38,19 +39,19 @@ fn card(number: u8, piece: &[u8]) -> Card {
 }
 
 // So many cards of a text, those behind its end without any of it.
-fn deck_of(alloc: Global, text: &[u8], count: u8) -> Result<Deck, AllocError> {
+fn deck_of<R: Abort>(rt: &R, alloc: Global, text: &[u8], count: u8) -> Deck {
     let mut deck = Deck::new(alloc);
     let mut rest = text;
     for number in 0..count {
         let (piece, behind) = rest.split_at(PIECE.min(rest.len()));
-        deck.push(card(number, piece))?;
+        deck.push(card(number, piece)).expect(rt, "memory");
         rest = behind;
     }
-    Ok(deck)
+    deck
 }
 
 // The text of a file A FILE A1 of 1900-01-01 00:00:02, with one record of F of so many letters.
-fn fixed(alloc: Global, size: u32) -> Result<Vec<u8>, AllocError> {
+fn fixed<R: Abort>(rt: &R, alloc: Global, size: u32) -> Vec<u8> {
     let length = size.to_be_bytes();
     let head: [&[u8]; 6] = [
         &NAME,
@@ -60,17 +61,18 @@ fn fixed(alloc: Global, size: u32) -> Result<Vec<u8>, AllocError> {
         &length,
         &[0, 1, 1, 0, 0, 2, 0],
     ];
-    let mut text = head.concat(alloc)?;
-    text.resize(text.len().saturating_add(size as usize), 0xE7)?;
-    Ok(text)
+    let mut text = head.concat(alloc).expect(rt, "memory");
+    let end = text.len().saturating_add(size as usize);
+    text.resize(end, 0xE7).expect(rt, "memory");
+    text
 }
 
-fn fixed_told(alloc: Global, case: &str) -> Result<String, AllocError> {
-    let text = fixed(alloc, number(word(case, 1)).min(1000))?;
+fn tell_fixed<R: Abort>(into: &mut Report, rt: &R, alloc: Global, case: &str) {
+    let text = fixed(rt, alloc, number(word(case, 1)).min(1000));
     let count = u8::try_from(number(word(case, 2))).unwrap_or(0);
-    let deck = deck_of(alloc, &text, count)?;
-    let file = read_deck(alloc, &deck)?.map(|(_, file)| (file.length, file.count));
-    told(alloc, &file)
+    let deck = deck_of(rt, alloc, &text, count);
+    let read = read_deck(alloc, &deck).expect(rt, "memory");
+    into.value(&read.map(|(_, file)| (file.length, file.count)))
 }
 
 // The text of a file A FILE A1 of 1900-01-01 00:00:02, with the record HELLO of V.
@@ -81,40 +83,36 @@ const HELLO: [u8; 44] = [
 ];
 
 // Whether a file is read from a deck of this card, and whether its dump is that deck.
-fn is_read(alloc: Global, card: Card) -> Result<(bool, bool), AllocError> {
+fn is_read<R: Abort>(rt: &R, alloc: Global, card: Card) -> (bool, bool) {
     let mut deck = Deck::new(alloc);
-    deck.push(card)?;
-    let Some((name, file)) = read_deck(alloc, &deck)? else {
-        return Ok((false, false));
-    };
-    let again = write_deck(alloc, &file, &name)?;
-    Ok((true, again.as_slice() == deck.as_slice()))
+    deck.push(card).expect(rt, "memory");
+    match read_deck(alloc, &deck).expect(rt, "memory") {
+        Some((name, file)) => {
+            let again = write_deck(alloc, &file, &name).expect(rt, "memory");
+            (true, again.as_slice() == deck.as_slice())
+        }
+        None => (false, false),
+    }
 }
 
-// Adds the places of a card at which another byte makes it the dump of another file; or those where that file's dump is the changed card.
-fn push_places(into: &mut Vec<usize>, alloc: Global, dumped: bool) -> Result<(), AllocError> {
+// The places of a card at which another byte makes it the dump of another file; or those where that file's dump is the changed card.
+fn tell_places<R: Abort>(into: &mut Report, rt: &R, alloc: Global, dumped: bool) {
+    let mut places = Vec::new(alloc);
     for place in 0..CARD {
         let mut changed = card(0, &HELLO);
         changed[place] ^= 1;
-        let (read, same) = is_read(alloc, changed)?;
+        let (read, same) = is_read(rt, alloc, changed);
         if read && (same || !dumped) {
-            into.push(place)?;
+            places.push(place).expect(rt, "memory");
         }
     }
-    Ok(())
+    into.value(&places)
 }
 
-// These places.
-fn places(alloc: Global, dumped: bool) -> Result<Vec<usize>, AllocError> {
-    let mut places = Vec::new(alloc);
-    push_places(&mut places, alloc, dumped)?;
-    Ok(places)
-}
-
-/// What a case comes to.
-pub fn answer(alloc: Global, case: &str) -> Result<String, AllocError> {
+/// Tells what a case comes to.
+pub fn tell<R: Abort>(into: &mut Report, rt: &R, alloc: Global, case: &str) {
     match word(case, 0) {
-        "fixed" => fixed_told(alloc, case),
-        _ => told(alloc, &places(alloc, word(case, 1) == "dumped")?),
+        "fixed" => tell_fixed(into, rt, alloc, case),
+        _ => tell_places(into, rt, alloc, word(case, 1) == "dumped"),
     }
 }

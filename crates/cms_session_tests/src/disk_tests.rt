@@ -90,5 +90,5 @@ R(00036);
 
 #[test]
 fn disks_are_told_of_and_released(rt: HostRuntime) -> Result<(), Fail> {
-    check_sessions(rt.alloc(), &[ASKED, RELEASED, UNITS])
+    check_sessions(&rt, rt.alloc(), &[ASKED, RELEASED, UNITS])
 }

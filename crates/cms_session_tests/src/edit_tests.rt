@@ -241,5 +241,5 @@ R;
 
 #[test]
 fn files_are_edited(rt: HostRuntime) -> Result<(), Fail> {
-    check_sessions(rt.alloc(), &[EDITS, SPOKEN])
+    check_sessions(&rt, rt.alloc(), &[EDITS, SPOKEN])
 }

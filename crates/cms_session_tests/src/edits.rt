@@ -1,10 +1,11 @@
 // The editor, told what a session may tell it.
-use cms_cases::Ascii;
+use cms_cases::{Ascii, Report};
 use cms_edit::Editor;
 use cms_ext::{ExtReply, ExtWant, Extension, Record, Records};
 use cms_names::Name;
 use cms_text::{LONGEST_TEXT, Line, Lines, ebcdic};
-use std::alloc::{AllocError, Global};
+use std::alloc::Global;
+use std::process::Abort;
 
 /// What it is told: `E` and the rest of a line of EDIT, `S` and a subcommand of a procedure, `L` and a line of the loop, `F` and records, `W` that
 /// its want is done, `C` and the code of a refusal. The answers are what it wants.
@@ -45,81 +46,78 @@ E A B;F A,B;S NEXT 0001;S NEXT 1 2;S NEXT X;S NEXT 1234567890;S UP 999999999;S T
 get A B 0;end 0;end 0;end 24;end 24;end 24;end 0;end 24;end 24;end 0;say A;end 0
 W;F A;L X;C 28 => end 24;end 24;end 24;end 24";
 
-// A text as a line.
-fn line_of(alloc: Global, text: &str) -> Result<Line, AllocError> {
-    let bytes = ebcdic(alloc, text)?;
-    if bytes.len() > LONGEST_TEXT {
-        return Err(AllocError);
-    }
-    Ok(Line::take(bytes))
+// A text as a line, which may not be too long.
+fn line_of<R: Abort>(rt: &R, alloc: Global, text: &str) -> Line {
+    let bytes = ebcdic(alloc, text).expect(rt, "memory");
+    assert!(rt; bytes.len() <= LONGEST_TEXT, "a line is too long");
+    Line::take(bytes)
 }
 
 // A line of EDIT.
-fn edit_line(alloc: Global, text: &str) -> Result<Line, AllocError> {
-    let mut line = String::from_str(alloc, "EDIT ")?;
-    line.push_str(text)?;
-    line_of(alloc, line.as_str())
+fn edit_line<R: Abort>(rt: &R, alloc: Global, text: &str) -> Line {
+    let line = format!(in alloc; "EDIT {text}").expect(rt, "memory");
+    line_of(rt, alloc, line.as_str())
 }
 
 // Records, with a comma behind each but the last.
-fn records_of(alloc: Global, text: &str) -> Result<Records, AllocError> {
+fn records_of<R: Abort>(rt: &R, alloc: Global, text: &str) -> Records {
     let mut records = Records::new(alloc);
     for part in text.split(",") {
-        let bytes = ebcdic(alloc, part)?;
+        let bytes = ebcdic(alloc, part).expect(rt, "memory");
         if (1..=1000).contains(&bytes.len()) {
-            records.push(Record::take(bytes))?;
+            records.push(Record::take(bytes)).expect(rt, "memory");
         }
     }
-    Ok(records)
+    records
 }
 
 // What it is told.
-fn reply_of(alloc: Global, step: &str) -> Result<ExtReply, AllocError> {
+fn reply_of<R: Abort>(rt: &R, alloc: Global, step: &str) -> ExtReply {
     let text = step.split_once(" ").map_or("", |parts| parts.1);
     match step.as_bytes().first() {
-        Some(b'E') => edit_line(alloc, text).map(ExtReply::Start),
-        Some(b'S') => line_of(alloc, text).map(ExtReply::Sub),
-        Some(b'L') => line_of(alloc, text).map(ExtReply::Got),
-        Some(b'F') => records_of(alloc, text).map(ExtReply::File),
-        Some(b'C') => Ok(ExtReply::Refused(text.parse().unwrap_or(0))),
-        _ => Ok(ExtReply::Went),
+        Some(b'E') => ExtReply::Start(edit_line(rt, alloc, text)),
+        Some(b'S') => ExtReply::Sub(line_of(rt, alloc, text)),
+        Some(b'L') => ExtReply::Got(line_of(rt, alloc, text)),
+        Some(b'F') => ExtReply::File(records_of(rt, alloc, text)),
+        Some(b'C') => ExtReply::Refused(text.parse().unwrap_or(0)),
+        _ => ExtReply::Went,
     }
 }
 
 // Adds lines, with a text before the first and commas between.
-fn push_lines(into: &mut String, first: &str, lines: &Lines) -> Result<(), AllocError> {
+fn push_lines(into: &mut Report, first: &str, lines: &Lines) {
     let mut before = first;
     for line in lines.as_slice() {
-        write!(into, "{before}{}", Ascii(line.bytes()))?;
+        into.push_str(before);
+        into.ascii(line.bytes());
         before = ",";
     }
-    Ok(())
 }
 
 // Adds records, with a text before the first and commas between.
-fn push_records(into: &mut String, first: &str, records: &Records) -> Result<(), AllocError> {
+fn push_records(into: &mut Report, first: &str, records: &Records) {
     let mut before = first;
     for record in records.as_slice() {
-        write!(into, "{before}{}", Ascii(record.bytes()))?;
+        into.push_str(before);
+        into.ascii(record.bytes());
         before = ",";
     }
-    Ok(())
 }
 
 // Adds what is done with a file, its name, and the number of its letter.
-fn push_file(into: &mut String, what: &str, name: &Name, letter: u8) -> Result<(), AllocError> {
+fn push_file(into: &mut Report, what: &str, name: &Name, letter: u8) {
     let (file, kind) = (Ascii(name.file.as_bytes()), Ascii(name.kind.as_bytes()));
     write!(into, "{what} {file} {kind} {}", letter % 10)
 }
 
 // Adds what it wants.
-fn push_want(into: &mut String, want: &ExtWant) -> Result<(), AllocError> {
+fn push_want(into: &mut Report, want: &ExtWant) {
     match want {
         ExtWant::Say(lines) => push_lines(into, "say ", lines),
         ExtWant::Ask => into.push_str("ask"),
         ExtWant::Get(name, letter) => push_file(into, "get", name, *letter),
         ExtWant::Put(name, letter, records) => {
-            push_file(into, "put", name, *letter)?;
+            push_file(into, "put", name, *letter);
             push_records(into, " ", records)
         }
         ExtWant::Done(code) => write!(into, "end {code}"),
@@ -127,23 +125,19 @@ fn push_want(into: &mut String, want: &ExtWant) -> Result<(), AllocError> {
 }
 
 // Adds what it wants behind what it is told, and a semicolon before it where something stands there.
-fn push_step(
-    into: &mut String,
-    alloc: Global,
-    editor: &mut Editor,
-    step: &str,
-) -> Result<(), AllocError> {
-    let want = editor.turn(alloc, &reply_of(alloc, step)?)?;
-    into.push_str(if into.is_empty() { "" } else { ";" })?;
+fn push_step<R: Abort>(into: &mut Report, rt: &R, alloc: Global, editor: &mut Editor, step: &str) {
+    let reply = reply_of(rt, alloc, step);
+    let want = editor.turn(alloc, &reply).expect(rt, "memory");
+    if !into.text().is_empty() {
+        into.push(';');
+    }
     push_want(into, &want)
 }
 
-/// What a case comes to.
-pub fn answer(alloc: Global, case: &str) -> Result<String, AllocError> {
+/// Tells what a case comes to.
+pub fn tell<R: Abort>(into: &mut Report, rt: &R, alloc: Global, case: &str) {
     let mut editor = Editor::new(alloc);
-    let mut found = String::new(alloc);
     for step in case.split(";") {
-        push_step(&mut found, alloc, &mut editor, step)?;
+        push_step(into, rt, alloc, &mut editor, step);
     }
-    Ok(found)
 }

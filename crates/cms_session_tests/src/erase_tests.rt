@@ -3,9 +3,11 @@ use crate::session::ended;
 use crate::transcript::{check_sessions, passed};
 use crate::trial::{Trial, check_trials};
 use crate::volumes::world_at;
+use cms_cases::Report;
 use cms_images::hello::{NEW_DIRECTORY, NEW_LABEL, NEW_MAP, hello};
 use cms_images::{Edit, image_left, put_edits};
-use std::alloc::{AllocError, Global};
+use std::alloc::Global;
+use std::process::Abort;
 use std::test::Fail;
 
 // Files that are erased, and files that are kept. Of the long directory one block is left, and one of the map. An update of the wide volume
@@ -92,24 +94,27 @@ R;
 
 #[test]
 fn files_are_erased_and_kept(rt: HostRuntime) -> Result<(), Fail> {
-    check_sessions(rt.alloc(), &[SESSIONS])
+    check_sessions(&rt, rt.alloc(), &[SESSIONS])
 }
 
 // 1 July 2026 at noon, in seconds after 1970.
 const NOON: i64 = 1_782_907_200;
 
 // What a crash after so many events of a session leaves, or its end, where all that was written is.
-fn left(
+fn left<R: Abort>(
+    rt: &R,
     alloc: Global,
     words: &str,
     images: &str,
     script: &str,
     start: i64,
     at: usize,
-) -> Result<Vec<u8>, AllocError> {
-    let mut world = world_at(alloc, images, script, start)?;
-    ended(alloc, words, &mut world)?;
-    image_left(alloc, &world, at.min(world.events()), u64::MAX)
+) -> Vec<u8> {
+    let mut world = world_at(rt, alloc, images, script, start);
+    ended(rt, alloc, words, &mut world);
+    let left = image_left(alloc, &world, at.min(world.events()), u64::MAX);
+    drop(world);
+    left.expect(rt, "memory")
 }
 
 // What is written up to moments of an erasure. The events are the line, the turn, two writes, a sync, the label, a sync, the ready line and
@@ -123,24 +128,16 @@ const MOMENTS: [(usize, &[Edit]); 6] = [
     (9, &[]),
 ];
 
-// The first moment that leaves another image; nothing where there is none.
-fn other_image(alloc: Global) -> Result<String, AllocError> {
-    let mut wanted = hello(alloc, &[])?;
+// Adds the first moment that leaves another image; nothing where there is none.
+fn push_other_image<R: Abort>(into: &mut Report, rt: &R, alloc: Global) {
+    let mut wanted = hello(alloc, &[]).expect(rt, "memory");
     for (at, edits) in MOMENTS {
         put_edits(wanted.as_mut_slice(), edits);
-        if left(
-            alloc,
-            "191,512,rw,A",
-            "hello",
-            "ERASE HELLO TEXT A\n",
-            NOON,
-            at,
-        )? != wanted
-        {
-            return format!(in alloc; "event {at}");
+        let (words, script) = ("191,512,rw,A", "ERASE HELLO TEXT A\n");
+        if left(rt, alloc, words, "hello", script, NOON, at) != wanted {
+            return write!(into, "event {at}");
         }
     }
-    Ok(String::new(alloc))
 }
 
 // The first erasure writes the directory to block 5, the second to block 4; each has the second of its turn and its century in
@@ -176,24 +173,25 @@ const STAMPS: &[(&str, &[Edit])] = &[
 
 const STAMPED: &str = "ERASE HELLO TEXT A\nTYPE HELL TEXT A\nERASE HELLO LIST A\n";
 
-// The words of the first session that leaves other stamps; nothing where there is none.
-fn other_stamps(alloc: Global) -> Result<String, AllocError> {
+// Adds the words of the first session that leaves other stamps; nothing where there is none.
+fn push_other_stamps<R: Abort>(into: &mut Report, rt: &R, alloc: Global) {
     for (words, stamps) in STAMPS {
         let start = NOON + 34 * 60 + 56;
-        let found = left(alloc, words, "three hellos", STAMPED, start, usize::MAX)?;
-        let mut wanted = found.to_vec(alloc)?;
+        let found = left(rt, alloc, words, "three hellos", STAMPED, start, usize::MAX);
+        let mut wanted = found.to_vec(alloc).expect(rt, "memory");
         put_edits(wanted.as_mut_slice(), stamps);
         if found != wanted {
-            return String::from_str(alloc, words);
+            return into.push_str(words);
         }
     }
-    Ok(String::new(alloc))
 }
 
 #[test]
 fn updates_are_stamped_and_written_in_order(rt: HostRuntime) -> Result<(), Fail> {
-    passed(other_image(rt.alloc())?)?;
-    passed(other_stamps(rt.alloc())?)
+    let mut differing = Report::new(rt.alloc());
+    push_other_image(&mut differing, &rt, rt.alloc());
+    push_other_stamps(&mut differing, &rt, rt.alloc());
+    passed(differing.text())
 }
 
 // Two of three files are erased.
@@ -374,5 +372,5 @@ R;
 
 #[test]
 fn a_crash_leaves_the_old_or_the_new(rt: HostRuntime) -> Result<(), Fail> {
-    check_trials(rt.alloc(), &[TWICE, WIDE])
+    check_trials(&rt, rt.alloc(), &[TWICE, WIDE])
 }

@@ -503,6 +503,7 @@ R;
 #[test]
 fn records_are_stacked_and_written(rt: HostRuntime) -> Result<(), Fail> {
     check_sessions(
+        &rt,
         rt.alloc(),
         &[READ, FILLED, TURNS, UNREAD, GIVEN, ASKED, REFUSED],
     )

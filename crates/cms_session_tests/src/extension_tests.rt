@@ -332,7 +332,7 @@ R(00028);
 
 #[test]
 fn extensions_answer_their_lines(rt: HostRuntime) -> Result<(), Fail> {
-    check_sessions(rt.alloc(), &[TALLIES, ASKING, SENT, FILES])
+    check_sessions(&rt, rt.alloc(), &[TALLIES, ASKING, SENT, FILES])
 }
 
 // Whether a word is taken once.
@@ -345,10 +345,6 @@ fn taken_once(alloc: Global) -> Result<bool, AllocError> {
 
 #[test]
 fn a_second_tally_comes_back(rt: HostRuntime) -> Result<(), Fail> {
-    let told = if taken_once(rt.alloc())? {
-        ""
-    } else {
-        "taken twice"
-    };
-    passed(String::from_str(rt.alloc(), told)?)
+    let taken_once = taken_once(rt.alloc()).expect(&rt, "memory");
+    passed(if taken_once { "" } else { "taken twice" })
 }

@@ -611,5 +611,5 @@ R;
 
 #[test]
 fn each_call_leaves_the_old_or_the_new(rt: HostRuntime) -> Result<(), Fail> {
-    check_trials(rt.alloc(), &[MADE, ERASED, LOADED, MOVED])
+    check_trials(&rt, rt.alloc(), &[MADE, ERASED, LOADED, MOVED])
 }

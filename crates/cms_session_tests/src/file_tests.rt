@@ -629,6 +629,7 @@ R(00028);
 #[test]
 fn files_are_told_typed_and_changed(rt: HostRuntime) -> Result<(), Fail> {
     check_sessions(
+        &rt,
         rt.alloc(),
         &[STATED, TYPED, ERASED, RENAMED, SESSIONS, CALLS, DOUBTED],
     )

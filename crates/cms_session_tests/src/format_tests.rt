@@ -126,7 +126,7 @@ R;
 
 #[test]
 fn disks_are_formatted_and_kept(rt: HostRuntime) -> Result<(), Fail> {
-    check_sessions(rt.alloc(), &[FORMATTED, KEPT, TURNS])
+    check_sessions(&rt, rt.alloc(), &[FORMATTED, KEPT, TURNS])
 }
 
 // Another volume is made of one with A FILE.
@@ -230,5 +230,5 @@ R(00036);
 
 #[test]
 fn a_device_fault_leaves_no_disk(rt: HostRuntime) -> Result<(), Fail> {
-    check_trials(rt.alloc(), &[REMADE])
+    check_trials(&rt, rt.alloc(), &[REMADE])
 }

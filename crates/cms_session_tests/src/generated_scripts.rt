@@ -1,7 +1,8 @@
 // Scripts of known seeds.
-use cms_cases::{number, word};
+use cms_cases::{Report, number, word};
 use cms_session::script;
-use std::alloc::{AllocError, Global};
+use std::alloc::Global;
+use std::process::Abort;
 
 /// Lines of scripts: the seed, and the place of the line, from 0.
 pub const ROWS: &str = "\
@@ -29,8 +30,8 @@ fn line(script: &[u8], place: u32) -> &str {
     }
 }
 
-/// The line.
-pub fn answer(alloc: Global, case: &str) -> Result<String, AllocError> {
-    let script = script(alloc, number(word(case, 0)))?;
-    String::from_str(alloc, line(&script, number(word(case, 1))))
+/// Tells the line.
+pub fn tell<R: Abort>(into: &mut Report, rt: &R, alloc: Global, case: &str) {
+    let script = script(alloc, number(word(case, 0))).expect(rt, "memory");
+    into.push_str(line(&script, number(word(case, 1))))
 }

@@ -318,5 +318,5 @@ R;
 
 #[test]
 fn files_are_listed(rt: HostRuntime) -> Result<(), Fail> {
-    check_sessions(rt.alloc(), &[LISTED, NOT_LISTED, STACKED, WRITTEN])
+    check_sessions(&rt, rt.alloc(), &[LISTED, NOT_LISTED, STACKED, WRITTEN])
 }

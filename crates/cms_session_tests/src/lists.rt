@@ -1,9 +1,10 @@
 // Lists of extensions.
-use cms_cases::Ascii;
+use cms_cases::Report;
 use cms_ext::{ExtList, Extension, PushExt, Tally};
 use cms_names::Part;
 use cms_text::coded;
 use std::alloc::{AllocError, Global};
+use std::process::Abort;
 
 /// Steps on a list: a capital letter hands a Tally in under it, its small letter asks for the place, and a digit drops what stands there.
 /// What comes of the steps, and the words at last.
@@ -45,34 +46,30 @@ fn drop_at(list: &mut ExtList, place: u32) -> char {
 }
 
 // Adds the words in their order.
-fn push_words(into: &mut String, list: &ExtList) -> Result<(), AllocError> {
+fn push_words(into: &mut Report, list: &ExtList) {
     for place in 0..list.len() as u32 {
-        write!(into, "{}", Ascii(list.word(place).as_bytes()))?;
+        into.ascii(list.word(place).as_bytes());
     }
-    Ok(())
 }
 
-// Adds what comes of steps. Objects are boxed and handed in here, where neither a list nor a box comes from the caller.
-fn push_steps(into: &mut String, alloc: Global, steps: &str) -> Result<(), AllocError> {
+// Hands a Tally in under a word.
+fn hand_in(alloc: Global, list: &mut ExtList, word: Part) -> Result<char, AllocError> {
+    let tally: Box<dyn Extension> = Box::new(alloc, Tally::new())?;
+    Ok(pushed(&list.push(word, tally)))
+}
+
+/// Tells what comes of steps.
+pub fn tell<R: Abort>(into: &mut Report, rt: &R, alloc: Global, case: &str) {
     let mut list = ExtList::new(alloc);
-    for byte in steps.as_bytes() {
-        let came = match word_of(*byte) {
+    for byte in case.as_bytes() {
+        into.push(match word_of(*byte) {
             Some(word) if byte.is_ascii_uppercase() => {
-                let tally: Box<dyn Extension> = Box::new(alloc, Tally::new())?;
-                pushed(&list.push(word, tally))
+                hand_in(alloc, &mut list, word).expect(rt, "memory")
             }
             Some(word) if byte.is_ascii_lowercase() => find(&list, &word),
             _ => drop_at(&mut list, u32::from(byte.saturating_sub(b'0'))),
-        };
-        into.push(came)?;
+        });
     }
-    into.push(' ')?;
+    into.push(' ');
     push_words(into, &list)
-}
-
-/// What a case comes to.
-pub fn answer(alloc: Global, case: &str) -> Result<String, AllocError> {
-    let mut found = String::new(alloc);
-    push_steps(&mut found, alloc, case)?;
-    Ok(found)
 }

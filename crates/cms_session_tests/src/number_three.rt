@@ -361,6 +361,7 @@ R;
 #[test]
 fn files_of_number_three_are_read_once(rt: HostRuntime) -> Result<(), Fail> {
     check_sessions(
+        &rt,
         rt.alloc(),
         &[TYPED, STACKED, KEPT, FULL, FAILED, LIMITED, READ_ON, COPIED],
     )

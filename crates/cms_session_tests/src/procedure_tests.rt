@@ -509,5 +509,5 @@ R;
 
 #[test]
 fn procedures_run(rt: HostRuntime) -> Result<(), Fail> {
-    check_sessions(rt.alloc(), &[STATEMENTS, COMMANDS, COPIED])
+    check_sessions(&rt, rt.alloc(), &[STATEMENTS, COMMANDS, COPIED])
 }

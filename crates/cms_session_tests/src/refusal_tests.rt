@@ -1,11 +1,12 @@
 // Sessions of procedures that end by a fault, that are refused, or whose turns run out.
 use crate::session::ended;
-use crate::transcript::{Transcript, check_sessions};
+use crate::transcript::{Transcript, check_sessions, passed};
 use crate::volumes::{WORDS, world_named};
 use cms_images::image_left;
 use cms_session::Status;
 use cms_world::MemWorld;
-use std::alloc::{AllocError, Global};
+use std::alloc::Global;
+use std::process::Abort;
 use std::test::Fail;
 
 const REFUSED: &str = "# fault 1
@@ -232,7 +233,7 @@ R;
 
 #[test]
 fn procedures_are_refused(rt: HostRuntime) -> Result<(), Fail> {
-    check_sessions(rt.alloc(), &[REFUSED])
+    check_sessions(&rt, rt.alloc(), &[REFUSED])
 }
 
 // The procedures of sessions with few turns.
@@ -257,44 +258,50 @@ const TURNS: &[(&str, &str, &str, usize)] = &[
     ("-t 20 191,512,rw,A", "G\n", "IN H\n", 20),
 ];
 
-// The image with these procedures; empty where it couldn't be made.
-fn image_of(alloc: Global, procedures: &str) -> Result<Vec<u8>, AllocError> {
-    let transcript = Transcript::of(alloc, procedures)?;
-    let mut world = world_named(alloc, "", transcript.script.as_str())?;
-    ended(alloc, WORDS, &mut world)?;
-    image_left(alloc, &world, world.events(), u64::MAX)
+// The image with these procedures.
+fn image_of<R: Abort>(rt: &R, alloc: Global, procedures: &str) -> Vec<u8> {
+    let transcript = Transcript::of(alloc, procedures);
+    let mut world = world_named(rt, alloc, "", transcript.script.text());
+    ended(rt, alloc, WORDS, &mut world);
+    let image = image_left(alloc, &world, world.events(), u64::MAX);
+    drop(world);
+    image.expect(rt, "memory")
+}
+
+// How often the clock was asked in a world.
+fn clocks(world: &MemWorld) -> usize {
+    world.calls().iter().filter(|call| **call == b'n').count()
 }
 
 // Whether the turns of a session run out so.
-fn runs_out(
+fn runs_out<R: Abort>(
+    rt: &R,
     alloc: Global,
     image: &[u8],
     session: &(&str, &str, &str, usize),
-) -> Result<bool, AllocError> {
+) -> bool {
     let (words, line, typed, turns) = *session;
-    let mut world = MemWorld::new(alloc, line.as_bytes(), 0)?;
-    world.add_image("A", image)?;
-    let status = ended(alloc, words, &mut world)?;
-    let clocks = world.calls().iter().filter(|call| **call == b'n').count();
-    Ok(status == Status::Turns && world.typed() == typed.as_bytes() && clocks == turns)
+    let mut world = MemWorld::new(alloc, line.as_bytes(), 0).expect(rt, "memory");
+    world.add_image("A", image).expect(rt, "memory");
+    let status = ended(rt, alloc, words, &mut world);
+    let is_typed = world.typed() == typed.as_bytes();
+    let clocks = clocks(&world);
+    drop(world);
+    status == Status::Turns && is_typed && clocks == turns
 }
 
 // The words of the first session whose turns run out otherwise; nothing where there is none.
-fn other_words(alloc: Global) -> Result<&'static str, AllocError> {
-    let image = image_of(alloc, LOOPING)?;
+fn other_words<R: Abort>(rt: &R, alloc: Global) -> &'static str {
+    let image = image_of(rt, alloc, LOOPING);
     for session in TURNS {
-        if !runs_out(alloc, &image, session)? {
-            return Ok(session.0);
+        if !runs_out(rt, alloc, &image, session) {
+            return session.0;
         }
     }
-    Ok("")
+    ""
 }
 
 #[test]
 fn the_turns_run_out_in_a_procedure(rt: HostRuntime) -> Result<(), Fail> {
-    match other_words(rt.alloc()) {
-        Ok("") => Ok(()),
-        Ok(words) => Err(Fail::new(words)),
-        Err(_) => Err(Fail::new("no memory")),
-    }
+    passed(other_words(&rt, rt.alloc()))
 }

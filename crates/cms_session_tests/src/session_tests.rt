@@ -339,7 +339,7 @@ R(00028);
 
 #[test]
 fn scripts_are_typed(rt: HostRuntime) -> Result<(), Fail> {
-    check_sessions(rt.alloc(), &[SCRIPTS, LONG, READ, WIDE])
+    check_sessions(&rt, rt.alloc(), &[SCRIPTS, LONG, READ, WIDE])
 }
 
 // A file is typed.
@@ -375,5 +375,5 @@ R(00100);
 
 #[test]
 fn each_call_fails_in_turn(rt: HostRuntime) -> Result<(), Fail> {
-    check_trials(rt.alloc(), &[TYPED])
+    check_trials(&rt, rt.alloc(), &[TYPED])
 }

@@ -206,5 +206,5 @@ R;
 
 #[test]
 fn lines_are_stacked_and_read(rt: HostRuntime) -> Result<(), Fail> {
-    check_sessions(rt.alloc(), &[STACKED, FORMATTED])
+    check_sessions(&rt, rt.alloc(), &[STACKED, FORMATTED])
 }

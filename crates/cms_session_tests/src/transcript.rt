@@ -1,28 +1,30 @@
 // Transcripts, and whether sessions are as these say.
 use crate::session::ended_with;
 use crate::volumes::{WORDS, YEAR_2000, image, world_at};
-use cms_cases::written_out;
+use cms_cases::{Report, written_out};
 use cms_images::image_left;
+use cms_session::Status;
 use cms_world::MemWorld;
-use std::alloc::{AllocError, Global};
+use std::alloc::Global;
+use std::process::Abort;
 use std::test::Fail;
 
 /// A session as it should be: the script, what is typed, and the words under which it is handed extensions.
 #[derive(Drop)]
 pub struct Transcript {
-    pub script: String,
-    pub typed: String,
-    pub handed: String,
+    pub script: Report,
+    pub typed: Report,
+    pub handed: Report,
 }
 
 impl Transcript {
     // Adds what a line says, where the procedure of this name began last.
-    fn push(&mut self, procedure: &str, line: &str) -> Result<(), AllocError> {
+    fn push(&mut self, procedure: &str, line: &str) {
         if let Some(text) = line.strip_prefix("| ") {
             writeln!(
                 self.script,
                 "EXECIO 1 DISKW {procedure} EXEC A (STRING {text}"
-            )?;
+            );
             self.typed.push_str("R;\n")
         } else if let Some(words) = line.strip_prefix("+ ") {
             self.handed.push_str(words)
@@ -30,37 +32,34 @@ impl Transcript {
             writeln!(self.script, "{asked}")
         } else if let Some(last) = line.strip_prefix(">> ") {
             self.script.push_str(last)
-        } else if is_told(line) {
-            Ok(())
-        } else {
+        } else if !is_told(line) {
             writeln!(self.typed, "{line}")
         }
     }
 
     // Adds what the lines of a text say.
-    fn push_lines(&mut self, text: &str) -> Result<(), AllocError> {
+    fn push_lines(&mut self, text: &str) {
         let mut procedure = "";
         for line in text.lines() {
             match line.strip_prefix("@ ") {
                 Some(name) => procedure = name,
-                None => self.push(procedure, line)?,
+                None => self.push(procedure, line),
             }
         }
-        Ok(())
     }
 
     /// What a text says: a line behind a sign for more is one of the script, and behind two of them the script's end, which no line feed
     /// ends. Behind an at sign stands the name of a procedure, and behind a bar each of its lines, which a line of the script writes, with
     /// its ready line. Behind a plus sign stand the words of extensions. The others are typed, but for those that tell of the session
     /// itself.
-    pub fn of(alloc: Global, text: &str) -> Result<Transcript, AllocError> {
+    pub fn of(alloc: Global, text: &str) -> Transcript {
         let mut transcript = Transcript {
-            script: String::new(alloc),
-            typed: String::new(alloc),
-            handed: String::new(alloc),
+            script: Report::new(alloc),
+            typed: Report::new(alloc),
+            handed: Report::new(alloc),
         };
-        transcript.push_lines(text)?;
-        Ok(transcript)
+        transcript.push_lines(text);
+        transcript
     }
 }
 
@@ -105,11 +104,12 @@ fn start(text: &str) -> i64 {
 }
 
 // Plans the call that fails.
-fn plan(world: &mut MemWorld, told: &str) -> Result<(), AllocError> {
+fn plan<R: Abort>(rt: &R, world: &mut MemWorld, told: &str) {
     let (call, landing) = told.split_once(" ").unwrap_or((told, ""));
-    match call.parse() {
-        Ok(call) => world.fail_at(call, landing == "landed"),
-        Err(_) => Ok(()),
+    if let Ok(call) = call.parse() {
+        world
+            .fail_at(call, landing == "landed")
+            .expect(rt, "memory")
     }
 }
 
@@ -130,85 +130,94 @@ pub fn text_of(bytes: &[u8]) -> &str {
     }
 }
 
+// Tells how a session ended: its status, its calls of the world, the units, and the events, each with a blank behind it.
+fn push_end(into: &mut Report, status: Status, world: &MemWorld) {
+    let calls = text_of(world.calls());
+    write!(
+        into,
+        "{status:?} {calls} {} {} ",
+        world.units(),
+        world.events()
+    )
+}
+
 /// Adds how a session ends that isn't as its transcript says, its script and what it types, behind what it is; nothing where it is so.
-pub fn push_differs(
-    into: &mut String,
+pub fn push_differs<R: Abort>(
+    into: &mut Report,
+    rt: &R,
     alloc: Global,
     (what, words): (&str, &str),
     world: &mut MemWorld,
     transcript: &Transcript,
     ending: &str,
-) -> Result<(), AllocError> {
-    let status = ended_with(alloc, words, &transcript.handed, world)?;
-    let calls = text_of(world.calls());
-    let told = format!(in alloc; "{status:?} {calls} {} {} ", world.units(), world.events())?;
-    if ends_as(&told, ending) && world.typed() == transcript.typed.as_bytes() {
-        return Ok(());
+) {
+    let status = ended_with(rt, alloc, words, transcript.handed.text(), world);
+    let mut told = Report::new(alloc);
+    push_end(&mut told, status, world);
+    let is_typed = world.typed() == transcript.typed.text().as_bytes();
+    if !ends_as(told.text(), ending) || !is_typed {
+        let (script, typed) = (transcript.script.text(), text_of(world.typed()));
+        write!(into, "{what}: {}\n{script}\n{typed}", told.text())
     }
-    let typed = text_of(world.typed());
-    write!(into, "{what}: {told}\n{}\n{typed}", transcript.script)
 }
 
 // Adds the name of the image that the session didn't leave; nothing where it did so, and where no image is named.
-fn push_left(
-    into: &mut String,
-    alloc: Global,
-    world: &MemWorld,
-    name: &str,
-) -> Result<(), AllocError> {
-    if name.is_empty() || image_left(alloc, world, world.events(), 0)? == image(alloc, name)? {
-        return Ok(());
+fn push_left<R: Abort>(into: &mut Report, rt: &R, alloc: Global, world: &MemWorld, name: &str) {
+    if name.is_empty() {
+        return;
     }
-    into.push_str(name)
+    let left = image_left(alloc, world, world.events(), 0).expect(rt, "memory");
+    if left != image(alloc, name).expect(rt, "memory") {
+        into.push_str(name)
+    }
 }
 
 // Adds what of a session isn't as its text says, behind its images and its words.
-fn push_session(
-    into: &mut String,
-    alloc: Global,
-    head: &str,
-    text: &str,
-) -> Result<(), AllocError> {
+fn push_session<R: Abort>(into: &mut Report, rt: &R, alloc: Global, head: &str, text: &str) {
     let (images, words) = head.split_once(": ").unwrap_or((head, WORDS));
-    let transcript = Transcript::of(alloc, text)?;
-    let mut world = world_at(alloc, images, &transcript.script, start(text))?;
-    plan(&mut world, line_behind(text, PLAN))?;
+    let transcript = Transcript::of(alloc, text);
+    let mut world = world_at(rt, alloc, images, transcript.script.text(), start(text));
+    plan(rt, &mut world, line_behind(text, PLAN));
     let ending = line_behind(text, ENDING);
-    push_differs(into, alloc, (head, words), &mut world, &transcript, ending)?;
-    push_left(into, alloc, &world, line_behind(text, LEFT))
+    push_differs(
+        into,
+        rt,
+        alloc,
+        (head, words),
+        &mut world,
+        &transcript,
+        ending,
+    );
+    push_left(into, rt, alloc, &world, line_behind(text, LEFT));
+    drop(world)
 }
 
 // Adds what the first session does that isn't as its transcript says; nothing where all are so.
-fn push_sessions(into: &mut String, alloc: Global, transcripts: &str) -> Result<(), AllocError> {
+fn push_sessions<R: Abort>(into: &mut Report, rt: &R, alloc: Global, transcripts: &str) {
     for part in transcripts.split("# ") {
         if let Some((head, text)) = part.split_once("\n")
-            && into.is_empty()
+            && into.text().is_empty()
         {
-            push_session(into, alloc, head, text)?;
+            push_session(into, rt, alloc, head, text);
         }
     }
-    Ok(())
-}
-
-// The same of all tables, whose pieces in braces are written out.
-fn unlike(alloc: Global, tables: &[&str]) -> Result<String, AllocError> {
-    let mut differing = String::new(alloc);
-    for transcripts in tables {
-        push_sessions(&mut differing, alloc, &written_out(alloc, transcripts)?)?;
-    }
-    Ok(differing)
 }
 
 /// The sessions of all tables are as their transcripts say. Each stands behind a line with the names of its images and, behind a colon, the
 /// program's words where they aren't [`WORDS`]. A piece in braces, with a star and a number behind it, stands for so many of it.
-pub fn check_sessions(alloc: Global, tables: &[&str]) -> Result<(), Fail> {
-    passed(unlike(alloc, tables)?)
+pub fn check_sessions<R: Abort>(rt: &R, alloc: Global, tables: &[&str]) -> Result<(), Fail> {
+    let mut differing = Report::new(alloc);
+    for transcripts in tables {
+        let transcripts = written_out(alloc, transcripts);
+        push_sessions(&mut differing, rt, alloc, transcripts.text());
+    }
+    passed(differing.text())
 }
 
 /// A test has passed where nothing differs; else it fails by what does.
-pub fn passed(differing: String) -> Result<(), Fail> {
+pub fn passed(differing: &str) -> Result<(), Fail> {
     if differing.is_empty() {
         return Ok(());
     }
-    Err(Fail::new(differing.as_str()))
+    Err(Fail::new(differing))
 }

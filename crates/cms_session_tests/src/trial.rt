@@ -2,10 +2,12 @@
 use crate::session::ended;
 use crate::transcript::{Transcript, passed, push_differs, text_of};
 use crate::volumes::world_named;
+use cms_cases::Report;
 use cms_images::crashed;
 use cms_session::Status;
 use cms_world::MemWorld;
-use std::alloc::{AllocError, Global};
+use std::alloc::Global;
+use std::process::Abort;
 use std::test::Fail;
 
 // Which of the blocks that were written and not synced are as written: none, all, and of every two the second or the first.
@@ -102,86 +104,78 @@ fn named<'a>(parts: &'a str, name: &str) -> &'a str {
 }
 
 // Adds what a crash leaves of a unit as the image of a name.
-fn add_left(
+fn add_left<R: Abort>(
     next: &mut MemWorld,
+    rt: &R,
     alloc: Global,
     world: &MemWorld,
     (unit, name): (u8, &str),
     at: usize,
     choice: u64,
-) -> Result<(), AllocError> {
-    match crashed(alloc, world, unit, at, choice)? {
-        Some(left) => next.add_image(name, &left),
-        None => Ok(()),
+) {
+    if let Some(left) = crashed(alloc, world, unit, at, choice).expect(rt, "memory") {
+        next.add_image(name, &left).expect(rt, "memory")
     }
 }
 
 impl Trial {
     // Whether a crash after so many events, by these choices, leaves a state.
-    fn leaves(
+    fn leaves<R: Abort>(
         &self,
+        rt: &R,
         alloc: Global,
         world: &MemWorld,
         at: usize,
         choice: u64,
         state: &str,
-    ) -> Result<bool, AllocError> {
+    ) -> bool {
         let [words, script] = self.look;
-        let mut next = world_named(alloc, self.images, script)?;
-        add_left(&mut next, alloc, world, (0, "A"), at, choice)?;
-        add_left(&mut next, alloc, world, (1, "B"), at, choice)?;
-        ended(alloc, words, &mut next)?;
-        Ok(next.typed() == named(self.states, state).as_bytes())
+        let mut next = world_named(rt, alloc, self.images, script);
+        add_left(&mut next, rt, alloc, world, (0, "A"), at, choice);
+        add_left(&mut next, rt, alloc, world, (1, "B"), at, choice);
+        ended(rt, alloc, words, &mut next);
+        let is_left = next.typed() == named(self.states, state).as_bytes();
+        drop(next);
+        is_left
     }
 
     // Of a row of moments, the state that isn't left; nothing where all are.
-    fn not_left<'a>(
+    fn not_left<'a, R: Abort>(
         &self,
+        rt: &R,
         alloc: Global,
         world: &MemWorld,
         at: usize,
         row: &Row<'a>,
-    ) -> Result<&'a str, AllocError> {
+    ) -> &'a str {
         for (choice, state) in CHOICES.iter().zip(row.words.iter()) {
             let (choice, state) = (*choice, *state);
-            if state != UNTRIED && !self.leaves(alloc, world, at, choice, state)? {
-                return Ok(state);
+            if state != UNTRIED && !self.leaves(rt, alloc, world, at, choice, state) {
+                return state;
             }
         }
-        Ok("")
+        ""
     }
 
     // Adds what a crash at a moment doesn't leave; nothing where something differs before.
-    fn push_crash(
+    fn push_crash<R: Abort>(
         &self,
-        into: &mut String,
+        into: &mut Report,
+        rt: &R,
         alloc: Global,
         world: &MemWorld,
         at: usize,
-    ) -> Result<(), AllocError> {
-        if !into.is_empty() {
-            return Ok(());
+    ) {
+        if !into.text().is_empty() {
+            return;
         }
         let Some(row) = row_for(self.moments, at, true) else {
             return write!(into, "no row of event {at}");
         };
-        match self.not_left(alloc, world, at, &row)? {
-            "" => Ok(()),
+        match self.not_left(rt, alloc, world, at, &row) {
+            "" => {}
             state => write!(into, "event {at}: not {state}"),
         }
-    }
-
-    // Adds the first moment at which a crash leaves other states than it should; nothing where there is none.
-    fn push_crashes(
-        &self,
-        into: &mut String,
-        alloc: Global,
-        world: &MemWorld,
-    ) -> Result<(), AllocError> {
-        for at in 0..world.events().saturating_add(1) {
-            self.push_crash(into, alloc, world, at)?;
-        }
-        Ok(())
     }
 
     // Whether a session that types these lines where no call fails ended as it should where this one did: it types what the row says where
@@ -200,109 +194,102 @@ impl Trial {
     }
 
     // Whether the states of a row stand where nothing of what isn't synced is written, and all of it.
-    fn leaves_both(
+    fn leaves_both<R: Abort>(
         &self,
+        rt: &R,
         alloc: Global,
         world: &MemWorld,
         row: &Row<'_>,
-    ) -> Result<bool, AllocError> {
+    ) -> bool {
         let [none, all, _, _] = row.words;
         let at = world.events();
-        Ok(self.leaves(alloc, world, at, 0, none)? && self.leaves(alloc, world, at, u64::MAX, all)?)
+        self.leaves(rt, alloc, world, at, 0, none)
+            && self.leaves(rt, alloc, world, at, u64::MAX, all)
     }
 
     // Adds how a session ends and what it types in a world in which this call fails, where that isn't as it should be.
-    fn push_ended(
+    fn push_ended<R: Abort>(
         &self,
-        into: &mut String,
+        into: &mut Report,
+        rt: &R,
         alloc: Global,
         world: &mut MemWorld,
         whole: &Transcript,
         (call, lands): (u32, bool),
         row: &Row<'_>,
-    ) -> Result<(), AllocError> {
-        let status = ended(alloc, self.words, world)?;
-        if self.ends(call as usize, status, world, whole.typed.as_str(), row.text)
-            && self.leaves_both(alloc, world, row)?
+    ) {
+        let status = ended(rt, alloc, self.words, world);
+        if !self.ends(call as usize, status, world, whole.typed.text(), row.text)
+            || !self.leaves_both(rt, alloc, world, row)
         {
-            return Ok(());
+            let typed = text_of(world.typed());
+            write!(into, "call {call}, {lands}: {status:?}\n{typed}")
         }
-        write!(
-            into,
-            "call {call}, {lands}: {status:?}\n{}",
-            text_of(world.typed())
-        )
     }
 
     // Adds what differs where this call fails; nothing where something differs before.
-    fn push_failing(
+    fn push_failing<R: Abort>(
         &self,
-        into: &mut String,
+        into: &mut Report,
+        rt: &R,
         alloc: Global,
         whole: &Transcript,
         call: u32,
         lands: bool,
-    ) -> Result<(), AllocError> {
-        if !into.is_empty() {
-            return Ok(());
+    ) {
+        if !into.text().is_empty() {
+            return;
         }
         let Some(row) = row_for(self.faults, call as usize, lands) else {
             return write!(into, "no row of call {call}");
         };
-        let states = row.words[0];
-        if states == UNTRIED {
-            return Ok(());
+        if row.words[0] == UNTRIED {
+            return;
         }
-        let mut world = world_named(alloc, self.images, &whole.script)?;
-        world.fail_at(call, lands)?;
-        self.push_ended(into, alloc, &mut world, whole, (call, lands), &row)
+        let mut world = world_named(rt, alloc, self.images, whole.script.text());
+        world.fail_at(call, lands).expect(rt, "memory");
+        self.push_ended(into, rt, alloc, &mut world, whole, (call, lands), &row);
+        drop(world)
     }
 
     // Adds the first call that fails otherwise than it should; nothing where there is none.
-    fn push_failures(
+    fn push_failures<R: Abort>(
         &self,
-        into: &mut String,
+        into: &mut Report,
+        rt: &R,
         alloc: Global,
         whole: &Transcript,
-    ) -> Result<(), AllocError> {
+    ) {
         let mut call: u32 = 0;
         for _letter in self.calls.iter() {
             call = call.saturating_add(1);
-            self.push_failing(into, alloc, whole, call, false)?;
-            self.push_failing(into, alloc, whole, call, true)?;
+            self.push_failing(into, rt, alloc, whole, call, false);
+            self.push_failing(into, rt, alloc, whole, call, true);
         }
-        Ok(())
-    }
-
-    // Adds the calls of a session where they aren't as they should be.
-    fn push_calls(&self, into: &mut String, world: &MemWorld) -> Result<(), AllocError> {
-        if world.calls() == self.calls {
-            return Ok(());
-        }
-        into.push_str(text_of(world.calls()))
     }
 
     // Adds what isn't as the trial says; nothing where all is so.
-    fn push_difference(&self, into: &mut String, alloc: Global) -> Result<(), AllocError> {
-        let whole = Transcript::of(alloc, self.transcript)?;
-        let mut world = world_named(alloc, self.images, &whole.script)?;
-        push_differs(into, alloc, ("whole", self.words), &mut world, &whole, "")?;
-        self.push_calls(into, &world)?;
-        self.push_crashes(into, alloc, &world)?;
-        self.push_failures(into, alloc, &whole)
+    fn push_difference<R: Abort>(&self, into: &mut Report, rt: &R, alloc: Global) {
+        let whole = Transcript::of(alloc, self.transcript);
+        let mut world = world_named(rt, alloc, self.images, whole.script.text());
+        let session = ("whole", self.words);
+        push_differs(into, rt, alloc, session, &mut world, &whole, "");
+        if world.calls() != self.calls {
+            into.push_str(text_of(world.calls()));
+        }
+        for at in 0..world.events().saturating_add(1) {
+            self.push_crash(into, rt, alloc, &world, at);
+        }
+        drop(world);
+        self.push_failures(into, rt, alloc, &whole)
     }
-}
-
-// What isn't as the trials say; nothing where all is so.
-fn difference(alloc: Global, trials: &[Trial]) -> Result<String, AllocError> {
-    let mut differing = String::new(alloc);
-    for trial in trials {
-        trial.push_difference(&mut differing, alloc)?;
-    }
-    Ok(differing)
 }
 
 /// All is as the trials say: their sessions run without a failure, with a crash at every moment, and with each of their calls failing.
-pub fn check_trials(alloc: Global, trials: &[Trial]) -> Result<(), Fail> {
-    passed(difference(alloc, trials)?)
+pub fn check_trials<R: Abort>(rt: &R, alloc: Global, trials: &[Trial]) -> Result<(), Fail> {
+    let mut differing = Report::new(alloc);
+    for trial in trials {
+        trial.push_difference(&mut differing, rt, alloc);
+    }
+    passed(differing.text())
 }

@@ -5,6 +5,7 @@ use cms_images::{
 };
 use cms_world::MemWorld;
 use std::alloc::{AllocError, Global};
+use std::process::Abort;
 
 const TEXTS: &[SmallFile] = &[
     SmallFile {
@@ -379,45 +380,42 @@ pub fn image(alloc: Global, name: &str) -> Result<Vec<u8>, AllocError> {
 }
 
 // Adds an image of a name to those of a world.
-fn add_image(
-    world: &mut MemWorld,
-    alloc: Global,
-    letter: &str,
-    name: &str,
-) -> Result<(), AllocError> {
-    world.add_image(letter, &image(alloc, name)?)
+fn add_image<R: Abort>(world: &mut MemWorld, rt: &R, alloc: Global, letter: &str, name: &str) {
+    let image = image(alloc, name).expect(rt, "memory");
+    world.add_image(letter, &image).expect(rt, "memory")
 }
 
 // Adds the images A, B and C.
-fn add_images(alloc: Global, world: &mut MemWorld, names: &str) -> Result<(), AllocError> {
+fn add_images<R: Abort>(world: &mut MemWorld, rt: &R, alloc: Global, names: &str) {
     let (first, others) = names.split_once(" + ").unwrap_or((names, "second"));
     let (second, third) = others.split_once(" + ").unwrap_or((others, "one file"));
-    add_image(world, alloc, "A", first)?;
-    add_image(world, alloc, "B", second)?;
-    add_image(world, alloc, "C", third)
+    add_image(world, rt, alloc, "A", first);
+    add_image(world, rt, alloc, "B", second);
+    add_image(world, rt, alloc, "C", third)
 }
 
 /// A world with the images A, B and C, whose names stand between plus signs; they are a volume without files where a name is none that is
 /// known here, and where names are left out a second volume and one with A FILE. It has none where the name begins with `new`.
-pub fn world_at(
+pub fn world_at<R: Abort>(
+    rt: &R,
     alloc: Global,
     names: &str,
     script: &str,
     start: i64,
-) -> Result<MemWorld, AllocError> {
-    let mut world = MemWorld::new(alloc, script.as_bytes(), start)?;
+) -> MemWorld {
+    let mut world = MemWorld::new(alloc, script.as_bytes(), start).expect(rt, "memory");
     if !names.starts_with("new") {
-        add_images(alloc, &mut world, names)?;
+        add_images(&mut world, rt, alloc, names);
     }
-    Ok(world)
+    world
 }
 
 /// The first second of the year 2000, behind 1970-01-01 00:00:00.
 pub const YEAR_2000: i64 = 946_684_800;
 
 /// The same; the clock says that second.
-pub fn world_named(alloc: Global, names: &str, script: &str) -> Result<MemWorld, AllocError> {
-    world_at(alloc, names, script, YEAR_2000)
+pub fn world_named<R: Abort>(rt: &R, alloc: Global, names: &str, script: &str) -> MemWorld {
+    world_at(rt, alloc, names, script, YEAR_2000)
 }
 
 /// The words of the program by which the first two of these images are units that may be written.

@@ -1,7 +1,8 @@
 // The cases of each module, and the test that tries them.
 use crate::{commands, words};
-use cms_cases::{Subject, try_rows};
-use std::alloc::{AllocError, Global};
+use cms_cases::{Report, Subject, try_rows};
+use std::alloc::Global;
+use std::process::Abort;
 use std::test::Fail;
 
 // Whose cases they are.
@@ -17,16 +18,30 @@ const ROWS: &[(Cases, &str)] = &[
     (Cases::Words, words::ROWS),
 ];
 
-impl Subject for Cases {
-    fn answer(&self, alloc: Global, case: &str) -> Result<String, AllocError> {
-        match self {
-            Cases::Commands => commands::answer(alloc, case),
-            Cases::Words => words::answer(alloc, case),
+// Who is asked for the answers: where there is no memory, or a case can't be made, the test ends.
+#[derive(Drop)]
+struct Asked<'a, R: Abort> {
+    rt: &'a R,
+    alloc: Global,
+}
+
+impl<R: Abort> Subject<Cases> for Asked<'_, R> {
+    fn tell(&self, kind: &Cases, case: &str, into: &mut Report) {
+        match kind {
+            Cases::Commands => commands::tell(into, self.rt, self.alloc, case),
+            Cases::Words => words::tell(into, self.rt, self.alloc, case),
         }
     }
 }
 
 #[test]
 fn cases_have_their_answers(rt: HostRuntime) -> Result<(), Fail> {
-    try_rows(&rt, ROWS)
+    try_rows(
+        &rt,
+        &Asked {
+            rt: &rt,
+            alloc: rt.alloc(),
+        },
+        ROWS,
+    )
 }

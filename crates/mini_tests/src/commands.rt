@@ -2,12 +2,14 @@
 ghost use Rattle.std.specs.Prelude.{All};
 ghost use Rattle.mini_words.specs.Ranges.{IsWithin};
 
+use cms_cases::Report;
 use cms_text::Series;
 use cms_world::{Argv, MemWorld};
 use mini_host::MemHost;
 use mini_words::{Request, read_requests};
 use mini_work::work;
-use std::alloc::{AllocError, Global};
+use std::alloc::Global;
+use std::process::Abort;
 
 /// Commands with semicolons between them, on a new image `disk` of 60 blocks of 512 bytes, of which the last is told: its status, the lines that it
 /// types, behind `|`, and what it notes, behind `!`. The host has `a.txt` (four lines, one empty, one with a carriage return, the last without
@@ -50,34 +52,26 @@ put disk a.txt;erase -v disk a.* q.q => Refused|A.TXT!q.q: NothingFits
 put disk a.txt;erase disk *.*;info disk => Done|label: TEST|block size: 512|blocks: 60|used: 6|free: 54|lost: 0|files: 0
 dump disk 61 => Refused!disk: NoBlock(61)";
 
-// What is told of a command: its status, what it typed, and what it noted.
-fn push_answer(
-    into: &mut String,
-    world: &MemWorld,
-    typed: usize,
-    host: &MemHost,
-    notes: usize,
-) -> Result<(), AllocError> {
+// What is told of a command behind its status: what it typed, and what it noted.
+fn push_told(into: &mut Report, world: &MemWorld, typed: usize, host: &MemHost, notes: usize) {
     let text = world.typed().get(typed..).unwrap_or(&[]);
-    if let Ok(text) = std::str::from_utf8(text) {
-        for line in text.lines() {
-            write!(into, "|{line}")?;
-        }
+    for line in str::from_utf8(text).unwrap_or("?").lines() {
+        write!(into, "|{line}");
     }
     for note in host.notes().get(notes..).unwrap_or(&[]) {
-        write!(into, "!{}: {:?}", note.word.text(), note.refusal)?;
+        write!(into, "!{}: {:?}", note.word.text(), note.refusal);
     }
-    Ok(())
 }
 
 // What a request comes to.
-fn push_request(
-    into: &mut String,
+fn push_request<R: Abort>(
+    into: &mut Report,
+    rt: &R,
     alloc: Global,
     world: &mut MemWorld,
     host: &mut MemHost,
     request: &Request,
-) -> Result<(), AllocError>
+)
     requires { IsWithin request.now }
 {
     if world.units() >= 256 {
@@ -85,75 +79,110 @@ fn push_request(
     }
     let typed = world.typed().len();
     let notes = host.notes().len();
-    let status = work(alloc, world, host, request)?;
-    write!(into, "{status:?}")?;
-    push_answer(into, world, typed, host, notes)
+    let status = work(alloc, world, host, request).expect(rt, "memory");
+    into.value(&status);
+    push_told(into, world, typed, host, notes)
 }
 
 // What some requests come to, one behind another.
-fn push_requests(
-    into: &mut String,
+fn push_requests<R: Abort>(
+    into: &mut Report,
+    rt: &R,
     alloc: Global,
     world: &mut MemWorld,
     host: &mut MemHost,
     requests: &Series<Request>,
-) -> Result<(), AllocError>
+)
     requires { All IsWithin requests.now }
 {
     for request in requests.as_slice() {
-        push_request(into, alloc, world, host, request)?;
+        push_request(into, rt, alloc, world, host, request);
     }
-    Ok(())
+}
+
+// The words of a command.
+fn words_of<R: Abort>(rt: &R, alloc: Global, command: &str) -> Argv {
+    let mut words = Argv::new(alloc);
+    words.push("minidisk").expect(rt, "memory");
+    for word in command.split(' ') {
+        words.push(word).expect(rt, "memory");
+    }
+    words
 }
 
 // What the requests of a command come to.
-fn run(
+fn push_run<R: Abort>(
+    into: &mut Report,
+    rt: &R,
     alloc: Global,
     world: &mut MemWorld,
     host: &mut MemHost,
     command: &str,
-) -> Result<String, AllocError> {
-    let mut words = Argv::new(alloc);
-    words.push("minidisk")?;
-    for word in command.split(' ') {
-        words.push(word)?;
+) {
+    match read_requests(alloc, &words_of(rt, alloc, command)) {
+        Ok(requests) => push_requests(into, rt, alloc, world, host, &requests),
+        Err(_) => into.push_str("words"),
     }
-    let mut found = String::new(alloc);
-    match read_requests(alloc, &words) {
-        Ok(requests) => push_requests(&mut found, alloc, world, host, &requests)?,
-        Err(_) => found.push_str("words")?,
-    }
-    Ok(found)
 }
 
 // The host of each case.
-fn host_of(alloc: Global) -> Result<MemHost, AllocError> {
+fn host_of<R: Abort>(rt: &R, alloc: Global) -> MemHost {
     let mut host = MemHost::new(alloc);
-    host.add_file("a.txt", b"Hello\nWorld  \r\n\n\xC3\xA9t\xC3\xA9")?;
-    host.add_file("b.bin", b"0123456789")?;
-    host.add_file("bad.txt", b"one\ntwo\rthree\n")?;
-    host.add_file("c", b"x\n")?;
-    host.add_folder("out")?;
-    host.add_folder(".")?;
-    Ok(host)
+    let files: [(&str, &[u8]); 4] = [
+        ("a.txt", b"Hello\nWorld  \r\n\n\xC3\xA9t\xC3\xA9"),
+        ("b.bin", b"0123456789"),
+        ("bad.txt", b"one\ntwo\rthree\n"),
+        ("c", b"x\n"),
+    ];
+    for (name, bytes) in files {
+        host.add_file(name, bytes).expect(rt, "memory");
+    }
+    host.add_folder("out").expect(rt, "memory");
+    host.add_folder(".").expect(rt, "memory");
+    host
 }
 
-/// What the last of the commands of a case comes to.
-pub fn answer(alloc: Global, case: &str) -> Result<String, AllocError> {
-    let mut world = MemWorld::new(alloc, b"", 946_684_800)?;
-    let mut host = host_of(alloc)?;
-    let mut found = run(
+// Makes the image, and gives the host its bytes as a file.
+fn make_image<R: Abort>(rt: &R, alloc: Global, world: &mut MemWorld, host: &mut MemHost) {
+    let mut found = Report::new(alloc);
+    push_run(
+        &mut found,
+        rt,
         alloc,
-        &mut world,
-        &mut host,
+        world,
+        host,
         "make -b 512 -n 60 -l TEST disk",
-    )?;
+    );
     if world.has_unit(0) {
-        let bytes = world.crash(alloc, 0, world.events(), u64::MAX)?;
-        host.add_file("disk", &bytes)?;
+        let left = world.crash(alloc, 0, world.events(), u64::MAX);
+        host.add_file("disk", &left.expect(rt, "memory"))
+            .expect(rt, "memory");
     }
-    for command in case.split(';') {
-        found = run(alloc, &mut world, &mut host, command)?;
+}
+
+// Runs the commands of a case before its last.
+fn run_first<R: Abort>(
+    rt: &R,
+    alloc: Global,
+    world: &mut MemWorld,
+    host: &mut MemHost,
+    commands: &str,
+) {
+    let mut found = Report::new(alloc);
+    for command in commands.split(';') {
+        push_run(&mut found, rt, alloc, world, host, command);
     }
-    Ok(found)
+}
+
+/// Tells what the last of the commands of a case comes to.
+pub fn tell<R: Abort>(into: &mut Report, rt: &R, alloc: Global, case: &str) {
+    let mut world = MemWorld::new(alloc, b"", 946_684_800).expect(rt, "memory");
+    let mut host = host_of(rt, alloc);
+    make_image(rt, alloc, &mut world, &mut host);
+    let mut last = case;
+    if let Some((first, rest)) = case.rsplit_once(';') {
+        run_first(rt, alloc, &mut world, &mut host, first);
+        last = rest;
+    }
+    push_run(into, rt, alloc, &mut world, &mut host, last)
 }

@@ -1,11 +1,12 @@
 // Lists of words with what they ask for.
-use cms_cases::Ascii;
+use cms_cases::{Ascii, Report};
 use cms_journal::BlockSize;
 use cms_names::Name;
 use cms_text::Series;
 use cms_world::{Argv, ImageName};
 use mini_words::{Get, Image, NamePattern, Put, Refused, Request, Target, read_requests};
-use std::alloc::{AllocError, Global};
+use std::alloc::Global;
+use std::process::Abort;
 
 /// Words with strokes between them, and what they ask for, or why they are refused.
 pub const ROWS: &str = "\
@@ -88,51 +89,44 @@ minidisk/put/w.img/- => NoName
 minidisk/put/w.img/a/- => NoName
 minidisk/put/-n/a.b/w.img/a/- => OneFile";
 
-fn argv(alloc: Global, case: &str) -> Result<Argv, AllocError> {
+fn argv<R: Abort>(rt: &R, alloc: Global, case: &str) -> Argv {
     let mut words = Argv::new(alloc);
     for word in case.split('/') {
-        words.push(word)?;
+        words.push(word).expect(rt, "memory");
     }
-    Ok(words)
+    words
 }
 
 // Adds a command with its image.
-fn push_command(
-    into: &mut String,
-    name: &str,
-    image: &str,
-    size: Option<BlockSize>,
-) -> Result<(), AllocError> {
+fn push_command(into: &mut Report, name: &str, image: &str, size: Option<BlockSize>) {
     match size {
         Some(size) => write!(into, "{name}({image},{})", size.bytes()),
         None => write!(into, "{name}({image})"),
     }
 }
 
-fn push_on(into: &mut String, name: &str, image: &Image) -> Result<(), AllocError> {
+fn push_on(into: &mut Report, name: &str, image: &Image) {
     push_command(into, name, image.name.text(), image.size)
 }
 
-fn push_name(into: &mut String, name: &Name) -> Result<(), AllocError> {
+fn push_name(into: &mut Report, name: &Name) {
     let (file, kind) = (Ascii(name.file.as_bytes()), Ascii(name.kind.as_bytes()));
     write!(into, " {file}.{kind}")
 }
 
-fn push_patterns(into: &mut String, names: &Series<NamePattern>) -> Result<(), AllocError> {
+fn push_patterns(into: &mut Report, names: &Series<NamePattern>) {
     for name in names.as_slice() {
-        write!(into, " {}", name.word.text())?;
+        write!(into, " {}", name.word.text());
     }
-    Ok(())
 }
 
-fn push_files(into: &mut String, files: &Series<ImageName>) -> Result<(), AllocError> {
+fn push_files(into: &mut Report, files: &Series<ImageName>) {
     for file in files.as_slice() {
-        write!(into, " {}", file.text())?;
+        write!(into, " {}", file.text());
     }
-    Ok(())
 }
 
-fn push_target(into: &mut String, target: &Target) -> Result<(), AllocError> {
+fn push_target(into: &mut Report, target: &Target) {
     match target {
         Target::Output => into.push_str("output"),
         Target::File(file) => push_command(into, "file", file.text(), None),
@@ -140,68 +134,56 @@ fn push_target(into: &mut String, target: &Target) -> Result<(), AllocError> {
     }
 }
 
-fn push_get(into: &mut String, get: &Get) -> Result<(), AllocError> {
-    push_on(into, "get", &get.image)?;
+fn push_get(into: &mut Report, get: &Get) {
+    push_on(into, "get", &get.image);
     write!(
         into,
         " {:?} replaces={} says={} ",
         get.form, get.replaces, get.says
-    )?;
-    push_target(into, &get.target)?;
+    );
+    push_target(into, &get.target);
     push_patterns(into, &get.names)
 }
 
-fn push_put(into: &mut String, put: &Put) -> Result<(), AllocError> {
-    push_on(into, "put", &put.image)?;
-    write!(into, " {:?} {}", put.layout, put.number)?;
+fn push_put(into: &mut Report, put: &Put) {
+    push_on(into, "put", &put.image);
+    write!(into, " {:?} {}", put.layout, put.number);
     match &put.name {
-        Some(name) => push_name(into, name)?,
-        None => into.push_str(" none")?,
+        Some(name) => push_name(into, name),
+        None => into.push_str(" none"),
     }
     write!(
         into,
         " replaces={} says={} {}",
         put.replaces, put.says, put.offset
-    )?;
+    );
     push_files(into, &put.files)
 }
 
 // Adds a command that changes an image, whether it says what it does, and the zone.
-fn push_change(
-    into: &mut String,
-    name: &str,
-    image: &Image,
-    says: bool,
-    offset: i32,
-) -> Result<(), AllocError> {
-    push_on(into, name, image)?;
+fn push_change(into: &mut Report, name: &str, image: &Image, says: bool, offset: i32) {
+    push_on(into, name, image);
     write!(into, " says={says} {offset}")
 }
 
-fn push_names(into: &mut String, from: &Name, to: &Name) -> Result<(), AllocError> {
-    push_name(into, from)?;
+fn push_names(into: &mut Report, from: &Name, to: &Name) {
+    push_name(into, from);
     push_name(into, to)
 }
 
 // Adds the blocks, the label and the zone of an image that is made.
-fn push_made(
-    into: &mut String,
-    blocks: u32,
-    label: &[u8; 6],
-    offset: i32,
-) -> Result<(), AllocError> {
+fn push_made(into: &mut Report, blocks: u32, label: &[u8; 6], offset: i32) {
     write!(into, " {blocks} {} {offset}", Ascii(label))
 }
 
-fn push_blocks(into: &mut String, blocks: &Series<u32>) -> Result<(), AllocError> {
+fn push_blocks(into: &mut Report, blocks: &Series<u32>) {
     for block in blocks.as_slice() {
-        write!(into, " {block}")?;
+        write!(into, " {block}");
     }
-    Ok(())
 }
 
 // Adds a command with its image, and what else is asked of that alone.
-fn push_head(into: &mut String, request: &Request) -> Result<(), AllocError> {
+fn push_head(into: &mut Report, request: &Request) {
     match request {
         Request::List { image, .. } => push_on(into, "list", image),
         Request::Info(image) => push_on(into, "info", image),
@@ -226,10 +208,10 @@ fn push_head(into: &mut String, request: &Request) -> Result<(), AllocError> {
 }
 
 // Adds what stands behind that.
-fn push_rest(into: &mut String, request: &Request) -> Result<(), AllocError> {
+fn push_rest(into: &mut Report, request: &Request) {
     match request {
         Request::List { long, names, .. } => {
-            write!(into, " long={long}")?;
+            write!(into, " long={long}");
             push_patterns(into, names)
         }
         Request::Erase { names, .. } => push_patterns(into, names),
@@ -241,29 +223,26 @@ fn push_rest(into: &mut String, request: &Request) -> Result<(), AllocError> {
             ..
         } => push_made(into, *blocks, label, *offset),
         Request::Dump { blocks, .. } => push_blocks(into, blocks),
-        _ => Ok(()),
+        _ => {}
     }
 }
 
 // Adds requests with blanks between.
-fn push_requests(into: &mut String, requests: &Series<Request>) -> Result<(), AllocError> {
+fn push_requests(into: &mut Report, requests: &Series<Request>) {
     for request in requests.as_slice() {
-        if !into.is_empty() {
-            into.push(' ')?;
+        if !into.text().is_empty() {
+            into.push(' ');
         }
-        push_head(into, request)?;
-        push_rest(into, request)?;
+        push_head(into, request);
+        push_rest(into, request);
     }
-    Ok(())
 }
 
-/// What a case comes to.
-pub fn answer(alloc: Global, case: &str) -> Result<String, AllocError> {
-    let mut told = String::new(alloc);
-    match read_requests(alloc, &argv(alloc, case)?) {
-        Ok(requests) => push_requests(&mut told, &requests)?,
-        Err(Refused::Clap(error)) => write!(told, "{:?}", error.kind())?,
-        Err(Refused::Word(fault)) => write!(told, "{fault:?}")?,
+/// Tells what a case comes to.
+pub fn tell<R: Abort>(into: &mut Report, rt: &R, alloc: Global, case: &str) {
+    match read_requests(alloc, &argv(rt, alloc, case)) {
+        Ok(requests) => push_requests(into, &requests),
+        Err(Refused::Clap(error)) => into.value(&error.kind()),
+        Err(Refused::Word(fault)) => into.value(&fault),
     }
-    Ok(told)
 }

@@ -1,7 +1,8 @@
 // The cases of EXEC 2, and the test that tries them.
+use crate::cases::Asked;
 use crate::exec2::{functions, procedures, runs};
-use cms_cases::{Subject, try_rows};
-use std::alloc::{AllocError, Global};
+use cms_cases::{Report, Subject, try_rows};
+use std::process::Abort;
 use std::test::Fail;
 
 // Whose cases they are.
@@ -36,17 +37,24 @@ const ROWS: &[(Cases, &str)] = &[
     (Cases::Runs, runs::ENDLESS),
 ];
 
-impl Subject for Cases {
-    fn answer(&self, alloc: Global, case: &str) -> Result<String, AllocError> {
-        match self {
-            Cases::Functions => functions::answer(alloc, case),
-            Cases::Procedures => procedures::answer(alloc, case),
-            Cases::Runs => runs::answer(alloc, case),
+impl<R: Abort> Subject<Cases> for Asked<'_, R> {
+    fn tell(&self, kind: &Cases, case: &str, into: &mut Report) {
+        match kind {
+            Cases::Functions => functions::tell(into, self.rt, self.alloc, case),
+            Cases::Procedures => procedures::tell(into, self.rt, self.alloc, case),
+            Cases::Runs => runs::tell(into, self.rt, self.alloc, case),
         }
     }
 }
 
 #[test]
 fn procedures_and_functions_answer(rt: HostRuntime) -> Result<(), Fail> {
-    try_rows(&rt, ROWS)
+    try_rows(
+        &rt,
+        &Asked {
+            rt: &rt,
+            alloc: rt.alloc(),
+        },
+        ROWS,
+    )
 }

@@ -1,59 +1,57 @@
 // Calls of the functions, and what is read and written for them, by the rules of VM/SP EXEC 2.
-use crate::exec2::shared::{coded, quoted, word};
-use cms_cases::told;
+use crate::exec2::shared::{coded, push_quoted, word};
+use cms_cases::Report;
 use cms_text::{WordList, number, written};
 use exec2_funcs::{Function, call};
-use std::alloc::{AllocError, Global};
+use std::alloc::Global;
+use std::process::Abort;
 
 // The function of a name, if there is one.
-fn named(alloc: Global, name: &str) -> Result<Option<Function>, AllocError> {
-    let bytes = coded(alloc, name)?;
-    Ok(Function::read(bytes.as_slice()))
+fn named<R: Abort>(rt: &R, alloc: Global, name: &str) -> Option<Function> {
+    Function::read(coded(rt, alloc, name).as_slice())
 }
 
-fn words_of(alloc: Global, text: &str) -> Result<WordList, AllocError> {
+fn words_of<R: Abort>(rt: &R, alloc: Global, text: &str) -> WordList {
     let mut words = WordList::new(alloc);
     for part in text.split('/') {
-        words.push(word(alloc, part)?)?;
+        words.push(word(rt, alloc, part)).expect(rt, "memory");
     }
-    Ok(words)
+    words
 }
 
 // What a function answers to its words: the value, or the fault.
-fn called(alloc: Global, name: &str, words: &WordList) -> Result<String, AllocError> {
-    let Some(function) = named(alloc, name)? else {
-        return String::from_str(alloc, "no function");
+fn tell_call<R: Abort>(into: &mut Report, rt: &R, alloc: Global, name: &str, words: &WordList) {
+    let Some(function) = named(rt, alloc, name) else {
+        return into.push_str("no function");
     };
     match call(alloc, function, words) {
-        Ok(word) => quoted(alloc, &word),
-        Err(fault) => told(alloc, &fault),
+        Ok(word) => push_quoted(into, &word),
+        Err(fault) => into.value(&fault),
     }
 }
 
 // A number as it is written, if it is read so too.
-fn number_again(alloc: Global, text: &str) -> Result<String, AllocError> {
-    let Ok(value) = text.parse::<i64>() else {
-        return String::from_str(alloc, "no number");
-    };
-    let word = written(alloc, value)?;
+fn tell_number<R: Abort>(into: &mut Report, rt: &R, alloc: Global, text: &str) {
+    let value = text.parse::<i64>().expect(rt, "a number");
+    let word = written(alloc, value).expect(rt, "memory");
     if number(word.bytes()) != Some(value) {
-        return String::from_str(alloc, "another number");
+        return into.push_str("another number");
     }
-    quoted(alloc, &word)
+    push_quoted(into, &word)
 }
 
-/// What a case comes to: the answer to a function and its words, with a stroke before each, or behind `name` or `number` to what is read
-/// there.
-pub fn answer(alloc: Global, case: &str) -> Result<String, AllocError> {
+/// Tells what a case comes to: the answer to a function and its words, with a stroke before each, or behind `name` or `number` to what is
+/// read there.
+pub fn tell<R: Abort>(into: &mut Report, rt: &R, alloc: Global, case: &str) {
     if let Some(name) = case.strip_prefix("name ") {
-        return told(alloc, &named(alloc, name)?);
+        return into.value(&named(rt, alloc, name));
     }
     if let Some(text) = case.strip_prefix("number ") {
-        return number_again(alloc, text);
+        return tell_number(into, rt, alloc, text);
     }
     match case.split_once('/') {
-        Some((name, text)) => called(alloc, name, &words_of(alloc, text)?),
-        None => called(alloc, case, &WordList::new(alloc)),
+        Some((name, text)) => tell_call(into, rt, alloc, name, &words_of(rt, alloc, text)),
+        None => tell_call(into, rt, alloc, case, &WordList::new(alloc)),
     }
 }
 

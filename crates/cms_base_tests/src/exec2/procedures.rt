@@ -1,15 +1,16 @@
 // Words, variables and procedures, by the rules of VM/SP EXEC 2.
-ghost use Rattle.std.specs.Prelude.{◌≤◌, length, IfOk};
+ghost use Rattle.std.specs.Prelude.{◌≤◌, length};
 ghost use Rattle.cms_fields.specs.Limits.{most_bytes};
 ghost use Rattle.cms_model.specs.Records.{IsValid};
 
-use crate::exec2::shared::{STAMP, coded, procedure_of, push_quoted, quoted, word};
-use cms_cases::{Ascii, told};
+use crate::exec2::shared::{STAMP, coded, procedure_of, push_quoted, word};
+use cms_cases::{Ascii, Report};
 use cms_model::{FileData, Stored};
 use cms_names::Format;
 use cms_text::{first_word, is_keyword, without_trailing_blanks};
 use exec2_parse::{ProcFault, Procedure, Vars, expand, read_procedure};
-use std::alloc::{AllocError, Global};
+use std::alloc::Global;
+use std::process::Abort;
 
 // Two records of 9 and 7 bytes, `&TRACE ON` and `&EXIT  `, each with its length before it.
 const VARYING: [u8; 20] = [
@@ -18,122 +19,99 @@ const VARYING: [u8; 20] = [
 ];
 
 // A file of these records.
-fn varying(alloc: Global) -> Result<FileData, AllocError>
-    ensures valid { IfOk result (λ file. IsValid file) }
-    ensures stored { IfOk result (λ file. length file.bytes ≤ most_bytes) }
+fn varying<R: Abort>(rt: &R, alloc: Global) -> FileData
+    ensures valid { IsValid result }
+    ensures stored { length result.bytes ≤ most_bytes }
 {
-    Ok(FileData {
+    FileData {
         format: Format::V,
         length: 9,
         number: 1,
         stamp: STAMP,
         count: 2,
-        bytes: Stored::take(VARYING.to_vec(alloc)?),
-    })
+        bytes: Stored::take(VARYING.to_vec(alloc).expect(rt, "memory")),
+    }
 }
 
 // Variables that are set one after another, `name=value`, or forgotten, `-name`.
-fn change(alloc: Global, vars: &mut Vars, step: &str) -> Result<(), AllocError> {
+fn change<R: Abort>(vars: &mut Vars, rt: &R, alloc: Global, step: &str) {
     if let Some((name, value)) = step.split_once('=') {
-        vars.set(word(alloc, name)?, word(alloc, value)?)?;
+        let (name, value) = (word(rt, alloc, name), word(rt, alloc, value));
+        vars.set(name, value).expect(rt, "memory");
     } else if let Some(name) = step.strip_prefix('-') {
-        vars.unset(word(alloc, name)?.bytes());
+        vars.unset(word(rt, alloc, name).bytes());
     }
-    Ok(())
 }
 
 // Adds how many variables there are, and the value of B.
-fn push_state(into: &mut String, alloc: Global, vars: &Vars) -> Result<(), AllocError> {
+fn push_state(into: &mut Report, vars: &Vars) {
     if vars.is_empty() {
         return into.push_str("empty");
     }
-    write!(into, "{} ", vars.len())?;
-    match vars.get(word(alloc, "B")?.bytes()) {
+    write!(into, "{} ", vars.len());
+    match vars.get(&[0xC2]) {
         Some(value) => push_quoted(into, value),
         None => into.push_str("none"),
     }
 }
 
-// Takes a step, and adds how the variables are then.
-fn push_change(
-    into: &mut String,
-    alloc: Global,
-    vars: &mut Vars,
-    step: &str,
-) -> Result<(), AllocError> {
-    change(alloc, vars, step)?;
-    into.push(';')?;
-    push_state(into, alloc, vars)
-}
-
 // How the variables are at first and after each step.
-fn states(alloc: Global, steps: &str) -> Result<String, AllocError> {
+fn tell_states<R: Abort>(into: &mut Report, rt: &R, alloc: Global, steps: &str) {
     let mut vars = Vars::new(alloc);
-    let mut all = String::new(alloc);
-    push_state(&mut all, alloc, &vars)?;
+    push_state(into, &vars);
     for step in steps.split(';') {
-        push_change(&mut all, alloc, &mut vars, step)?;
+        change(&mut vars, rt, alloc, step);
+        into.push(';');
+        push_state(into, &vars);
     }
-    Ok(all)
 }
 
 // The variables of the words that are expanded.
-fn known(alloc: Global) -> Result<Vars, AllocError> {
+fn known<R: Abort>(rt: &R, alloc: Global) -> Vars {
     let mut vars = Vars::new(alloc);
     for step in "I=2;A2=Q;V=&I;=E;A=B;L=%254".split(';') {
-        change(alloc, &mut vars, step)?;
+        change(&mut vars, rt, alloc, step);
     }
-    Ok(vars)
+    vars
 }
 
-fn expanded(alloc: Global, text: &str) -> Result<String, AllocError> {
-    let vars = known(alloc)?;
-    let word = word(alloc, text)?;
-    match expand(alloc, word.bytes(), &vars) {
-        Ok(word) => quoted(alloc, &word),
-        Err(fault) => told(alloc, &fault),
+fn tell_expanded<R: Abort>(into: &mut Report, rt: &R, alloc: Global, text: &str) {
+    let word = word(rt, alloc, text);
+    match expand(alloc, word.bytes(), &known(rt, alloc)) {
+        Ok(word) => push_quoted(into, &word),
+        Err(fault) => into.value(&fault),
     }
 }
 
 // The first word of a line, and the line without the blanks at its end.
-fn parts(alloc: Global, line: &str) -> Result<String, AllocError> {
-    let bytes = coded(alloc, line)?;
-    let first = Ascii(first_word(bytes.as_slice()));
-    let kept = Ascii(without_trailing_blanks(bytes.as_slice()));
-    format!(in alloc; "[{first}][{kept}]")
+fn tell_parts(into: &mut Report, line: &[u8]) {
+    let first = Ascii(first_word(line));
+    let kept = Ascii(without_trailing_blanks(line));
+    write!(into, "[{first}][{kept}]")
 }
 
-fn is_trace(alloc: Global, word: &str) -> Result<String, AllocError> {
-    let bytes = coded(alloc, word)?;
-    told(alloc, &is_keyword(bytes.as_slice(), "&TRACE"))
-}
-
-// How many lines a procedure in records of this length has, or why there is none.
-fn count_of(alloc: Global, size: u16, lines: &str) -> Result<String, AllocError> {
-    let read = procedure_of(alloc, size, lines)?;
-    told(alloc, &read.map(|procedure| procedure.len()))
+// How many lines a procedure has, or why there is none.
+fn tell_count(into: &mut Report, read: Result<Procedure, ProcFault>) {
+    into.value(&read.map(|procedure| procedure.len()))
 }
 
 // Adds the lines of a procedure up to the first place at which there is none.
-fn push_lines(into: &mut String, procedure: &Procedure) -> Result<(), AllocError> {
-    write!(into, "{}", procedure.len())?;
+fn push_lines(into: &mut Report, procedure: &Procedure) {
+    into.value(&procedure.len());
     for place in 0..9 {
         match procedure.get(place) {
-            Some(line) => push_quoted(into, line)?,
-            None => return Ok(()),
+            Some(line) => push_quoted(into, line),
+            None => return,
         }
     }
-    Ok(())
 }
 
 // The lines of a procedure, or why there is none.
-fn lines_of(alloc: Global, read: Result<Procedure, ProcFault>) -> Result<String, AllocError> {
-    let mut all = String::new(alloc);
+fn tell_lines(into: &mut Report, read: Result<Procedure, ProcFault>) {
     match read {
-        Ok(procedure) => push_lines(&mut all, &procedure)?,
-        Err(fault) => write!(all, "{fault:?}")?,
+        Ok(procedure) => push_lines(into, &procedure),
+        Err(fault) => into.value(&fault),
     }
-    Ok(all)
 }
 
 /// Lines, each with a word for what is asked of the text behind it, and the answers:
@@ -195,20 +173,18 @@ long @4095 &TRACE; => Ok(4096)
 long @4096 &TRACE; => Err(TooManyLines)
 long @4096 &TRACE;%256 => Err(LineTooLong(4097))";
 
-/// What a case comes to.
-pub fn answer(alloc: Global, case: &str) -> Result<String, AllocError> {
-    let Some((kind, text)) = case.split_once(' ') else {
-        return String::from_str(alloc, "no word");
-    };
+/// Tells what a case comes to.
+pub fn tell<R: Abort>(into: &mut Report, rt: &R, alloc: Global, case: &str) {
+    let (kind, text) = case.split_once(' ').unwrap_or((case, ""));
     match kind {
-        "expand" => expanded(alloc, text),
-        "vars" => states(alloc, text),
-        "parts" => parts(alloc, text),
-        "trace" => is_trace(alloc, text),
-        "short" => count_of(alloc, 80, text),
-        "long" => count_of(alloc, 300, text),
-        "lines" => lines_of(alloc, procedure_of(alloc, 80, text)?),
-        "varying" => lines_of(alloc, read_procedure(alloc, &varying(alloc)?)),
-        _ => String::from_str(alloc, "another word"),
+        "expand" => tell_expanded(into, rt, alloc, text),
+        "vars" => tell_states(into, rt, alloc, text),
+        "parts" => tell_parts(into, coded(rt, alloc, text).as_slice()),
+        "trace" => into.value(&is_keyword(coded(rt, alloc, text).as_slice(), "&TRACE")),
+        "short" => tell_count(into, procedure_of(rt, alloc, 80, text)),
+        "long" => tell_count(into, procedure_of(rt, alloc, 300, text)),
+        "lines" => tell_lines(into, procedure_of(rt, alloc, 80, text)),
+        "varying" => tell_lines(into, read_procedure(alloc, &varying(rt, alloc))),
+        _ => into.push_str("another word"),
     }
 }

@@ -1,12 +1,13 @@
 // Procedures and what they want, by the rules of VM/SP EXEC 2.
-use crate::exec2::shared::{coded, procedure_of, word};
-use cms_cases::{Ascii, number};
+use crate::exec2::shared::{procedure_of, word};
+use cms_cases::{Ascii, Report, number};
 use cms_fields::Moment;
 use cms_names::{Name, Part};
 use cms_text::Lines;
 use exec2_parse::Procedure;
 use exec2_run::{Exec, FileName, Side, Want};
 use std::alloc::{AllocError, Global};
+use std::process::Abort;
 
 // A procedure and what it wants, `CALLED # LINES # ANSWERS => WANTED`, or with `# turns` before the arrow how many turns it takes too, of
 // which there are at most as many as stand behind that word, if a number does. The lines stand between semicolons, behind a first line
@@ -329,39 +330,32 @@ fn field(case: &str, place: usize) -> &str {
 }
 
 // A name or a type.
-fn part(alloc: Global, text: &str) -> Result<Part, AllocError> {
-    let bytes = coded(alloc, text)?;
-    match Part::read(bytes.as_slice()) {
-        Ok(part) => Ok(part),
-        Err(_) => Err(AllocError),
-    }
+fn part<R: Abort>(rt: &R, text: &[u8]) -> Part {
+    Part::read(text).expect(rt, "a part")
 }
 
 // The file of the procedures, T EXEC A1.
-fn found(alloc: Global) -> Result<FileName, AllocError> {
-    let file = part(alloc, "T")?;
-    let kind = part(alloc, "EXEC")?;
-    Ok(FileName {
+fn found<R: Abort>(rt: &R) -> FileName {
+    let file = part(rt, &[0xE3]);
+    let kind = part(rt, &[0xC5, 0xE7, 0xC5, 0xC3]);
+    FileName {
         name: Name { file, kind },
         letter: 0,
         number: 1,
-    })
-}
-
-// The procedure of these lines behind the one that turns the trace off.
-fn procedure(alloc: Global, lines: &str) -> Result<Procedure, AllocError> {
-    let lines = format!(in alloc; "&TRACE OFF;{lines}")?;
-    match procedure_of(alloc, 255, lines.as_str())? {
-        Ok(procedure) => Ok(procedure),
-        Err(_) => Err(AllocError),
     }
 }
 
+// The procedure of these lines behind the one that turns the trace off.
+fn procedure<R: Abort>(rt: &R, alloc: Global, lines: &str) -> Procedure {
+    let lines = format!(in alloc; "&TRACE OFF;{lines}").expect(rt, "memory");
+    procedure_of(rt, alloc, 255, lines.as_str()).expect(rt, "a procedure")
+}
+
 // A procedure that is called, by its name alone where no line is given.
-fn started(alloc: Global, called: &str, lines: &str) -> Result<Exec, AllocError> {
-    let found = found(alloc)?;
-    let called = word(alloc, if called.is_empty() { "T" } else { called })?;
-    Exec::start(alloc, procedure(alloc, lines)?, &called, &found)
+fn started<R: Abort>(rt: &R, alloc: Global, called: &str, lines: &str) -> Exec {
+    let called = word(rt, alloc, if called.is_empty() { "T" } else { called });
+    let procedure = procedure(rt, alloc, lines);
+    Exec::start(alloc, procedure, &called, &found(rt)).expect(rt, "memory")
 }
 
 // The moment of a turn, from 0: 2000-01-01 00:00:00, and a second more for each.
@@ -382,31 +376,29 @@ fn next_want(exec: &mut Exec, turn: &mut u32) -> Result<Want, AllocError> {
 }
 
 // Adds a word and the lines behind it, each between brackets and with a blank before it.
-fn push_lines(into: &mut String, first: &str, lines: &Lines) -> Result<(), AllocError> {
-    into.push_str(first)?;
+fn push_lines(into: &mut Report, first: &str, lines: &Lines) {
+    into.push_str(first);
     for line in lines.as_slice() {
-        write!(into, " [{}]", Ascii(line.bytes()))?;
+        write!(into, " [{}]", Ascii(line.bytes()));
     }
     into.push(';')
 }
 
+// Adds a word and texts between brackets.
+fn push_sub(into: &mut Report, word: &[u8], text: &[u8]) {
+    write!(into, "sub [{}] [{}];", Ascii(word), Ascii(text))
+}
+
 // Adds what is wanted.
-fn push_want(into: &mut String, want: &Want) -> Result<(), AllocError> {
+fn push_want(into: &mut Report, want: &Want) {
     match want {
-        Want::Next => Ok(()),
+        Want::Next => {}
         Want::Say(lines) => push_lines(into, "say", lines),
         Want::Stack(lines, Side::Front) => push_lines(into, "stack front", lines),
         Want::Stack(lines, Side::Back) => push_lines(into, "stack back", lines),
         Want::Read => into.push_str("read;"),
         Want::Command(command) => write!(into, "cmd [{}];", Ascii(command.bytes())),
-        Want::Sub(word, text) => {
-            write!(
-                into,
-                "sub [{}] [{}];",
-                Ascii(word.bytes()),
-                Ascii(text.bytes())
-            )
-        }
+        Want::Sub(word, text) => push_sub(into, word.bytes(), text.bytes()),
         Want::Ended(code) => write!(into, "end {code}"),
         Want::Failed { number, line } => write!(into, "fail {number} {line}"),
     }
@@ -427,8 +419,9 @@ fn stacked(exec: &mut Exec, answers: &mut &str) -> Want {
     }
 }
 
-fn lined(alloc: Global, exec: &mut Exec, answers: &mut &str) -> Result<Want, AllocError> {
-    exec.take_line(&word(alloc, answer_in(answers, "r ").unwrap_or(""))?)
+fn lined<R: Abort>(rt: &R, alloc: Global, exec: &mut Exec, answers: &mut &str) -> Want {
+    let line = word(rt, alloc, answer_in(answers, "r ").unwrap_or(""));
+    exec.take_line(&line).expect(rt, "memory")
 }
 
 fn coded_by(exec: &mut Exec, answers: &mut &str) -> Want {
@@ -438,54 +431,62 @@ fn coded_by(exec: &mut Exec, answers: &mut &str) -> Want {
 }
 
 // What the procedure goes on with where this was wanted; nothing where it has ended.
-fn answered(
+fn answered<R: Abort>(
+    rt: &R,
     alloc: Global,
     exec: &mut Exec,
     want: &Want,
     answers: &mut &str,
-) -> Result<Option<Want>, AllocError> {
+) -> Option<Want> {
     match want {
-        Want::Next | Want::Say(_) => Ok(Some(Want::Next)),
-        Want::Stack(_, _) => Ok(Some(stacked(exec, answers))),
-        Want::Read => Ok(Some(lined(alloc, exec, answers)?)),
-        Want::Command(_) | Want::Sub(_, _) => Ok(Some(coded_by(exec, answers))),
-        Want::Ended(_) | Want::Failed { .. } => Ok(None),
+        Want::Next | Want::Say(_) => Some(Want::Next),
+        Want::Stack(_, _) => Some(stacked(exec, answers)),
+        Want::Read => Some(lined(rt, alloc, exec, answers)),
+        Want::Command(_) | Want::Sub(_, _) => Some(coded_by(exec, answers)),
+        Want::Ended(_) | Want::Failed { .. } => None,
     }
 }
 
 // Adds what was wanted, and says what the procedure goes on with.
-fn step(
-    into: &mut String,
+fn step<R: Abort>(
+    into: &mut Report,
+    rt: &R,
     alloc: Global,
     exec: &mut Exec,
-    want: &Want,
+    turn: &mut u32,
+    last: Want,
     answers: &mut &str,
-) -> Result<Option<Want>, AllocError> {
-    push_want(into, want)?;
-    answered(alloc, exec, want, answers)
+) -> Option<Want> {
+    let want = match last {
+        Want::Next => next_want(exec, turn).expect(rt, "memory"),
+        other => other,
+    };
+    push_want(into, &want);
+    let next = answered(rt, alloc, exec, &want, answers);
+    drop(want);
+    next
 }
 
 // Adds all that a procedure wants, and says how many turns it takes, of which there are at most so many.
-fn push_wants(
-    into: &mut String,
+fn push_wants<R: Abort>(
+    into: &mut Report,
+    rt: &R,
     alloc: Global,
     exec: &mut Exec,
     answers: &str,
     most: u32,
-) -> Result<u32, AllocError> {
+) -> u32 {
     let mut answers = answers;
     let mut turn: u32 = 0;
     let mut want = Want::Next;
     for _ in 0..most {
-        if matches!(&want, Want::Next) {
-            want = next_want(exec, &mut turn)?;
-        }
-        match step(into, alloc, exec, &want, &mut answers)? {
+        match step(into, rt, alloc, exec, &mut turn, want, &mut answers) {
             Some(next) => want = next,
-            None => break,
+            None => return turn,
         }
     }
-    Ok(turn)
+    drop(want);
+    turn
 }
 
 // The most turns that a row's last field allows.
@@ -493,27 +494,14 @@ fn most_turns(last: &str) -> u32 {
     last.strip_prefix("turns ").map_or(TURNS, number)
 }
 
-// Adds what a row's procedure wants, with the turns that it takes where the row asks for these.
-fn push_answer(
-    into: &mut String,
-    alloc: Global,
-    exec: &mut Exec,
-    case: &str,
-) -> Result<(), AllocError> {
+/// Tells what a row's procedure wants, with the turns that it takes where the row asks for these.
+pub fn tell<R: Abort>(into: &mut Report, rt: &R, alloc: Global, case: &str) {
     let last = field(case, 3);
-    let turns = push_wants(into, alloc, exec, field(case, 2), most_turns(last))?;
-    if last.is_empty() {
-        return Ok(());
-    }
-    write!(into, ";turns {turns}")
-}
-
-/// What a row's procedure wants.
-pub fn answer(alloc: Global, case: &str) -> Result<String, AllocError> {
-    let mut exec = started(alloc, field(case, 0), field(case, 1))?;
-    let mut told = String::new(alloc);
-    let done = push_answer(&mut told, alloc, &mut exec, case);
+    let mut exec = started(rt, alloc, field(case, 0), field(case, 1));
+    let (answers, most) = (field(case, 2), most_turns(last));
+    let turns = push_wants(into, rt, alloc, &mut exec, answers, most);
     drop(exec);
-    done?;
-    Ok(told)
+    if !last.is_empty() {
+        write!(into, ";turns {turns}");
+    }
 }

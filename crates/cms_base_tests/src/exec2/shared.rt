@@ -1,47 +1,40 @@
 // Words and procedures for the tests.
-ghost use Rattle.std.specs.Prelude.{◌≤◌, length, IfOk};
+ghost use Rattle.std.specs.Prelude.{◌≤◌, length};
 ghost use Rattle.cms_fields.specs.Limits.{most_bytes};
 ghost use Rattle.cms_model.specs.Records.{IsValid};
 
-use cms_cases::Ascii;
+use cms_cases::{Ascii, Report};
 use cms_fields::Stamp;
 use cms_model::{FileData, Stored};
 use cms_names::Format;
 use cms_text::{LONGEST_TEXT, Word, ebcdic};
 use exec2_parse::{ProcFault, Procedure, read_procedure};
-use std::alloc::{AllocError, Global};
+use std::alloc::Global;
+use std::process::Abort;
 
 /// A text in EBCDIC; behind a percent sign stands how many letters X it is.
-pub fn coded(alloc: Global, text: &str) -> Result<Vec<u8>, AllocError> {
-    match text.strip_prefix('%') {
+pub fn coded<R: Abort>(rt: &R, alloc: Global, text: &str) -> Vec<u8> {
+    let bytes = match text.strip_prefix('%') {
         Some(count) => vec![in alloc; 0xE7; count.parse().unwrap_or(0)],
         None => ebcdic(alloc, text),
-    }
+    };
+    bytes.expect(rt, "memory")
 }
 
-/// A word or a line of such a text, if it isn't too long.
-pub fn word(alloc: Global, text: &str) -> Result<Word, AllocError> {
-    let bytes = coded(alloc, text)?;
-    if bytes.len() > LONGEST_TEXT {
-        return Err(AllocError);
-    }
-    Ok(Word::take(bytes))
+/// A word or a line of such a text, which may not be too long.
+pub fn word<R: Abort>(rt: &R, alloc: Global, text: &str) -> Word {
+    let bytes = coded(rt, alloc, text);
+    assert!(rt; bytes.len() <= LONGEST_TEXT, "a word is too long");
+    Word::take(bytes)
 }
 
 /// Adds a word between apostrophes, or how many bytes it has, if these are many.
-pub fn push_quoted(into: &mut String, word: &Word) -> Result<(), AllocError> {
+pub fn push_quoted(into: &mut Report, word: &Word) {
     let bytes = word.bytes();
     if bytes.len() > 99 {
         return write!(into, "{} bytes", bytes.len());
     }
     write!(into, "'{}'", Ascii(bytes))
-}
-
-/// The same alone.
-pub fn quoted(alloc: Global, word: &Word) -> Result<String, AllocError> {
-    let mut text = String::new(alloc);
-    push_quoted(&mut text, word)?;
-    Ok(text)
 }
 
 /// The first of January 1900.
@@ -65,55 +58,51 @@ fn copies(line: &str) -> (u32, &str) {
 }
 
 // Adds a line, as often as it stands there, with blanks behind it up to a size.
-fn push_cards(bytes: &mut Vec<u8>, alloc: Global, size: u16, line: &str) -> Result<(), AllocError> {
+fn push_cards<R: Abort>(bytes: &mut Vec<u8>, rt: &R, alloc: Global, size: u16, line: &str) {
     let (count, text) = copies(line);
-    let mut card = coded(alloc, text)?;
-    card.resize(usize::from(size), 0x40)?;
+    let mut card = coded(rt, alloc, text);
+    card.resize(usize::from(size), 0x40).expect(rt, "memory");
     for _ in 0..count {
-        bytes.extend_from_slice(&card)?;
+        bytes.extend_from_slice(&card).expect(rt, "memory");
     }
-    Ok(())
 }
 
 // The lines between semicolons, each with blanks behind it up to a size.
-fn filled(alloc: Global, size: u16, lines: &str) -> Result<Vec<u8>, AllocError> {
+fn filled<R: Abort>(rt: &R, alloc: Global, size: u16, lines: &str) -> Vec<u8> {
     let mut bytes = Vec::new(alloc);
     for line in lines.split(';') {
-        push_cards(&mut bytes, alloc, size, line)?;
+        push_cards(&mut bytes, rt, alloc, size, line);
     }
-    Ok(bytes)
+    bytes
 }
 
-// A file of records of one length, if there may be such a file.
-fn cards(alloc: Global, size: u16, lines: &str) -> Result<FileData, AllocError>
-    ensures valid { IfOk result (λ file. IsValid file) }
-    ensures stored { IfOk result (λ file. length file.bytes ≤ most_bytes) }
+// A file of records of one length, which has to be one that there may be.
+fn cards<R: Abort>(rt: &R, alloc: Global, size: u16, lines: &str) -> FileData
+    ensures valid { IsValid result }
+    ensures stored { length result.bytes ≤ most_bytes }
 {
-    let bytes = filled(alloc, size, lines)?;
-    if size < 1 || size > 300 {
-        return Err(AllocError);
-    }
+    assert!(rt; size >= 1 && size <= 300, "no such record");
+    let bytes = filled(rt, alloc, size, lines);
     let count = bytes.len() / usize::from(size);
-    if count < 1 || count > 5000 || bytes.len() != count * usize::from(size) {
-        return Err(AllocError);
-    }
-    Ok(FileData {
+    assert!(rt; count >= 1 && count <= 5000, "too many records");
+    assert!(rt; bytes.len() == count * usize::from(size), "half a record");
+    FileData {
         format: Format::F,
         length: u32::from(size),
         number: 1,
         stamp: STAMP,
         count: count as u32,
         bytes: Stored::take(bytes),
-    })
+    }
 }
 
 /// What is read of a file of the lines between semicolons, in records of one length, filled with blanks. `@N text` is N lines of that
 /// text, and `%N` a line of N letters X.
-pub fn procedure_of(
+pub fn procedure_of<R: Abort>(
+    rt: &R,
     alloc: Global,
     size: u16,
     lines: &str,
-) -> Result<Result<Procedure, ProcFault>, AllocError> {
-    let file = cards(alloc, size, lines)?;
-    Ok(read_procedure(alloc, &file))
+) -> Result<Procedure, ProcFault> {
+    read_procedure(alloc, &cards(rt, alloc, size, lines))
 }

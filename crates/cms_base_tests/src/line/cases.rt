@@ -1,7 +1,8 @@
 // The cases of lines, and the test that tries them.
+use crate::cases::Asked;
 use crate::line::{consoles, messages, options, stacks, typed_lines};
-use cms_cases::{Subject, try_rows};
-use std::alloc::{AllocError, Global};
+use cms_cases::{Report, Subject, try_rows};
+use std::process::Abort;
 use std::test::Fail;
 
 // Whose cases they are.
@@ -35,34 +36,31 @@ const ROWS: &[(Cases, &str)] = &[
     (Cases::Answered, options::ANSWERED),
 ];
 
-fn push_answer(
-    into: &mut String,
-    alloc: Global,
-    cases: Cases,
-    case: &str,
-) -> Result<(), AllocError> {
-    match cases {
-        Cases::Lines(size) => consoles::push_lines(into, alloc, size, case),
-        Cases::Reads => consoles::push_reads(into, alloc, case),
-        Cases::Typed => typed_lines::push_typed(into, alloc, case),
-        Cases::Codes => typed_lines::push_codes(into, alloc),
-        Cases::Messages => messages::push_text(into, alloc, case),
-        Cases::Stacks => stacks::push_steps(into, alloc, case),
-        Cases::Words => options::push_words(into, alloc, case),
-        Cases::Accepted => options::push_accepted(into, alloc, case),
-        Cases::Answered => options::push_answered(into, alloc, case),
-    }
-}
-
-impl Subject for Cases {
-    fn answer(&self, alloc: Global, case: &str) -> Result<String, AllocError> {
-        let mut found = String::new(alloc);
-        push_answer(&mut found, alloc, *self, case)?;
-        Ok(found)
+impl<R: Abort> Subject<Cases> for Asked<'_, R> {
+    fn tell(&self, kind: &Cases, case: &str, into: &mut Report) {
+        let (rt, alloc) = (self.rt, self.alloc);
+        match kind {
+            Cases::Lines(size) => consoles::push_lines(into, rt, alloc, *size, case),
+            Cases::Reads => consoles::push_reads(into, rt, alloc, case),
+            Cases::Typed => typed_lines::push_typed(into, rt, alloc, case),
+            Cases::Codes => typed_lines::push_codes(into, alloc),
+            Cases::Messages => messages::push_text(into, rt, alloc, case),
+            Cases::Stacks => stacks::push_steps(into, alloc, case),
+            Cases::Words => options::push_words(into, rt, alloc, case),
+            Cases::Accepted => options::push_accepted(into, rt, alloc, case),
+            Cases::Answered => options::push_answered(into, rt, alloc, case),
+        }
     }
 }
 
 #[test]
 fn lines_and_messages_answer(rt: HostRuntime) -> Result<(), Fail> {
-    try_rows(&rt, ROWS)
+    try_rows(
+        &rt,
+        &Asked {
+            rt: &rt,
+            alloc: rt.alloc(),
+        },
+        ROWS,
+    )
 }

@@ -1,9 +1,10 @@
 // Scripts and their lines.
 use crate::line::words::blank_word;
 use crate::plain_world::{PlainWorld, in_pieces};
-use cms_cases::{Ascii, number};
+use cms_cases::{Report, number};
 use cms_line::{Console, ConsoleLine, LineFault};
-use std::alloc::{AllocError, Global};
+use std::alloc::Global;
+use std::process::Abort;
 
 /// A script, in which `;` is a line feed, `<` a carriage return, `>` a tab, `^` a bell and `~` a deletion, and before which `N*` is so many
 /// times `A`, and its lines, of which those of more than 99 times `A` alone are told so too.
@@ -52,11 +53,11 @@ fn is_letters(line: &[u8]) -> bool {
 }
 
 // Adds a line's text.
-fn push_text(into: &mut String, line: &[u8]) -> Result<(), AllocError> {
+fn push_text(into: &mut Report, line: &[u8]) {
     if line.len() > 99 && is_letters(line) {
         return write!(into, "{}*", line.len());
     }
-    write!(into, "{}", Ascii(line))
+    into.ascii(line)
 }
 
 // What stands behind a line's text, or in its place: `?` where it is bad, `+` where it is long, `-` for a further piece, `!` where the
@@ -73,29 +74,25 @@ fn sign(line: &Result<ConsoleLine, LineFault>) -> &'static str {
     }
 }
 
-// Adds what a console gave.
-fn push_line(into: &mut String, line: &Result<ConsoleLine, LineFault>) -> Result<(), AllocError> {
-    if let Ok(ConsoleLine::Text(text)) = line {
-        push_text(into, text.bytes())?;
-    }
-    into.push_str(sign(line))
-}
-
 // Adds the lines of a script that is given, or else of the world's. The end is asked for thrice.
-fn push_script(
-    into: &mut String,
+fn push_script<R: Abort>(
+    into: &mut Report,
+    rt: &R,
     alloc: Global,
     given: Option<Vec<u8>>,
     world: &mut PlainWorld<'_>,
-) -> Result<(), AllocError> {
-    let mut console = Console::new(alloc, given)?;
+) {
+    let mut console = Console::new(alloc, given).expect(rt, "memory");
     for _ in 0..1000 {
-        push_line(into, &console.next(world))?;
-        if into.ends_with(",,,") {
+        let line = console.next(world);
+        if let Ok(ConsoleLine::Text(text)) = &line {
+            push_text(into, text.bytes());
+        }
+        into.push_str(sign(&line));
+        if into.text().ends_with(",,,") {
             break;
         }
     }
-    Ok(())
 }
 
 // What a character of a case stands for.
@@ -110,51 +107,42 @@ fn character(byte: u8) -> u8 {
     }
 }
 
-// Adds characters, each as what it stands for.
-fn push_characters(into: &mut Vec<u8>, text: &str) -> Result<(), AllocError> {
-    for byte in text.as_bytes() {
-        into.push(character(*byte))?;
+// A script of so many letters and these characters, each as what it stands for.
+fn script_of<R: Abort>(rt: &R, alloc: Global, count: usize, ending: &str) -> Vec<u8> {
+    let mut script = vec![in alloc; b'A'; count].expect(rt, "memory");
+    for byte in ending.as_bytes() {
+        script.push(character(*byte)).expect(rt, "memory");
     }
-    Ok(())
+    script
 }
 
 /// Adds the lines of a script that is read in pieces of one size.
-pub fn push_lines(
-    into: &mut String,
-    alloc: Global,
-    size: usize,
-    case: &str,
-) -> Result<(), AllocError> {
+pub fn push_lines<R: Abort>(into: &mut Report, rt: &R, alloc: Global, size: usize, case: &str) {
     let (count, ending) = case.split_once('*').unwrap_or(("", case));
-    let mut script = vec![in alloc; b'A'; number(count) as usize]?;
-    push_characters(&mut script, ending)?;
-    push_script(into, alloc, None, &mut in_pieces(alloc, &script, size, 0))
+    let script = script_of(rt, alloc, number(count) as usize, ending);
+    push_script(
+        into,
+        rt,
+        alloc,
+        None,
+        &mut in_pieces(alloc, &script, size, 0),
+    )
 }
 
 // The script that is given in place of the world's, if one is.
-fn given(alloc: Global, is_given: bool) -> Result<Option<Vec<u8>>, AllocError> {
+fn given<R: Abort>(rt: &R, alloc: Global, is_given: bool) -> Option<Vec<u8>> {
     if is_given {
-        return Ok(Some(b"A\r\nB".to_vec(alloc)?));
+        return Some(b"A\r\nB".to_vec(alloc).expect(rt, "memory"));
     }
-    Ok(None)
-}
-
-// Adds what is read of a script, and how.
-fn push_read(
-    into: &mut String,
-    alloc: Global,
-    is_given: bool,
-    world: &mut PlainWorld<'_>,
-) -> Result<(), AllocError> {
-    push_script(into, alloc, given(alloc, is_given)?, world)?;
-    write!(into, "{},{}", world.calls, world.reads_past_end)
+    None
 }
 
 /// Adds what is read of a script up to its end, and further.
-pub fn push_reads(into: &mut String, alloc: Global, case: &str) -> Result<(), AllocError> {
+pub fn push_reads<R: Abort>(into: &mut Report, rt: &R, alloc: Global, case: &str) {
     let is_given = blank_word(case, 0) == "given";
     let script = if is_given { "C\n" } else { "A\nB" };
     let failing = number(blank_word(case, 1)) as usize;
     let mut world = in_pieces(alloc, script.as_bytes(), 7, failing);
-    push_read(into, alloc, is_given, &mut world)
+    push_script(into, rt, alloc, given(rt, alloc, is_given), &mut world);
+    write!(into, "{},{}", world.calls, world.reads_past_end)
 }

@@ -1,8 +1,10 @@
 // Messages.
 use crate::line::words::{blank_word, short};
-use cms_cases::{Ascii, number};
-use cms_line::{Message, Word, write_message};
-use std::alloc::{AllocError, Global};
+use crate::operands::push_message;
+use cms_cases::{Report, number};
+use cms_line::{Message, Word};
+use std::alloc::Global;
+use std::process::Abort;
 
 /// Messages by their numbers and words, and their texts.
 pub const ROWS: &str = "001 XYZ => CMS001E Unknown command XYZ
@@ -98,36 +100,26 @@ fn of_three(number: u32, first: Word, second: Word, third: Word) -> Message {
 }
 
 // The message that is given by its number and its words.
-fn message(alloc: Global, case: &str) -> Result<Message, AllocError> {
+fn message<R: Abort>(rt: &R, alloc: Global, case: &str) -> Message {
     let number = number(blank_word(case, 0));
     let first = blank_word(case, 1);
     let second = blank_word(case, 2);
     let third = blank_word(case, 3);
     if first.is_empty() {
-        return Ok(wordless(number));
+        return wordless(number);
     }
-    let first = short(alloc, first)?;
+    let first = short(rt, alloc, first);
     if second.is_empty() {
-        return Ok(of_one(number, first));
+        return of_one(number, first);
     }
-    let second = short(alloc, second)?;
+    let second = short(rt, alloc, second);
     if third.is_empty() {
-        return Ok(of_two(number, first, second));
+        return of_two(number, first, second);
     }
-    Ok(of_three(number, first, second, short(alloc, third)?))
-}
-
-// Adds the text of a message in ASCII.
-fn push_message(into: &mut String, alloc: Global, message: &Message) -> Result<(), AllocError> {
-    let mut text = Vec::new(alloc);
-    write_message(&mut text, message)?;
-    write!(into, "{}", Ascii(&text))
+    of_three(number, first, second, short(rt, alloc, third))
 }
 
 /// Adds the text of the message of a case.
-pub fn push_text(into: &mut String, alloc: Global, case: &str) -> Result<(), AllocError> {
-    let message = message(alloc, case)?;
-    let done = push_message(into, alloc, &message);
-    drop(message);
-    done
+pub fn push_text<R: Abort>(into: &mut Report, rt: &R, alloc: Global, case: &str) {
+    push_message(into, rt, alloc, message(rt, alloc, case))
 }

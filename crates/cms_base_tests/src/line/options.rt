@@ -1,9 +1,10 @@
 // Lines, their words and the options among them, written by hand.
 use crate::line::words::short;
-use cms_cases::Ascii;
-use cms_line::{OptionRule, Token, Tokens, accepted_options, options, tokens};
+use cms_cases::Report;
+use cms_line::{OptionRule, Tokens, accepted_options, options, tokens};
 use cms_text::coded;
-use std::alloc::{AllocError, Global};
+use std::alloc::Global;
+use std::process::Abort;
 
 /// The words of a line with their places, each with a semicolon behind it, and a period at the end.
 pub const WORDS: &str = " => .
@@ -48,22 +49,17 @@ L (DATE FROM 1) => Err(Missing(5))
 L (DISK BLUE LABEL => Err(Unknown(3))
 L ({DATE *25}BLUE => Err(Unknown(27))";
 
-fn words_of(alloc: Global, line: &str) -> Result<Tokens, AllocError> {
-    tokens(alloc, &short(alloc, line)?)
+fn words_of<R: Abort>(rt: &R, alloc: Global, line: &str) -> Tokens {
+    tokens(alloc, &short(rt, alloc, line)).expect(rt, "memory")
 }
 
-// Adds words with their places.
-fn push_places(into: &mut String, words: &[Token]) -> Result<(), AllocError> {
-    for word in words {
-        let text = Ascii(word.text.bytes());
-        write!(into, "{text} {}-{};", word.start, word.end)?;
+/// Adds the words of a line with their places.
+pub fn push_words<R: Abort>(into: &mut Report, rt: &R, alloc: Global, line: &str) {
+    for word in words_of(rt, alloc, line).as_slice() {
+        into.ascii(word.text.bytes());
+        write!(into, " {}-{};", word.start, word.end);
     }
     into.push('.')
-}
-
-/// Adds the words of a line.
-pub fn push_words(into: &mut String, alloc: Global, line: &str) -> Result<(), AllocError> {
-    push_places(into, words_of(alloc, line)?.as_slice())
 }
 
 fn rule(name: &[u8; 8], least: u8, takes: u8) -> OptionRule {
@@ -84,13 +80,14 @@ fn rules() -> [OptionRule; 4] {
 }
 
 /// Adds the options of a line up to the first refusal.
-pub fn push_accepted(into: &mut String, alloc: Global, line: &str) -> Result<(), AllocError> {
-    let accepted = accepted_options(alloc, &rules(), &words_of(alloc, line)?)?;
-    write!(into, "{:?}", (accepted.chosen.as_slice(), accepted.refused))
+pub fn push_accepted<R: Abort>(into: &mut Report, rt: &R, alloc: Global, line: &str) {
+    let words = words_of(rt, alloc, line);
+    let accepted = accepted_options(alloc, &rules(), &words).expect(rt, "memory");
+    into.value(&(accepted.chosen.as_slice(), accepted.refused))
 }
 
 /// Adds the options of a line, or their first fault.
-pub fn push_answered(into: &mut String, alloc: Global, line: &str) -> Result<(), AllocError> {
-    let words = words_of(alloc, line)?;
-    write!(into, "{:?}", options(alloc, &rules(), &words))
+pub fn push_answered<R: Abort>(into: &mut Report, rt: &R, alloc: Global, line: &str) {
+    let words = words_of(rt, alloc, line);
+    into.value(&options(alloc, &rules(), &words))
 }

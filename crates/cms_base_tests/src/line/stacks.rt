@@ -1,8 +1,8 @@
 // The program stack.
 use crate::line::words::blank_word;
-use cms_cases::number;
+use cms_cases::{Report, number};
 use cms_line::{Line, ProgStack, PushFault};
-use std::alloc::{AllocError, Global};
+use std::alloc::Global;
 
 /// How many lines of `a` are stacked, and the steps behind that: a small letter is stacked behind, a capital in front, a hyphen takes a
 /// line, and a question mark asks whether there is none. What comes of the steps, and how many lines are left.
@@ -46,24 +46,14 @@ fn step(alloc: Global, stack: &mut ProgStack, step: u8) -> char {
     }
 }
 
-// Adds what comes of steps, and how many lines are left.
-fn take_steps(
-    into: &mut String,
-    alloc: Global,
-    stack: &mut ProgStack,
-    steps: &str,
-) -> Result<(), AllocError> {
-    for byte in steps.as_bytes() {
-        into.push(step(alloc, stack, *byte))?;
-    }
-    write!(into, " {}", stack.len())
-}
-
-/// Adds what comes of steps behind lines.
-pub fn push_steps(into: &mut String, alloc: Global, case: &str) -> Result<(), AllocError> {
+/// Adds what comes of steps behind lines, and how many lines are left.
+pub fn push_steps(into: &mut Report, alloc: Global, case: &str) {
     let mut stack = ProgStack::new(alloc);
     for _ in 0..number(blank_word(case, 0)) {
         push(alloc, &mut stack, b'a', false);
     }
-    take_steps(into, alloc, &mut stack, blank_word(case, 1))
+    for byte in blank_word(case, 1).as_bytes() {
+        into.push(step(alloc, &mut stack, *byte));
+    }
+    write!(into, " {}", stack.len())
 }

@@ -1,9 +1,10 @@
 // Lines that are typed.
 use crate::line::words::blank_word;
 use crate::plain_world::{PlainWorld, in_pieces};
-use cms_cases::number;
+use cms_cases::{Report, number};
 use cms_line::type_line;
-use std::alloc::{AllocError, Global};
+use std::alloc::Global;
+use std::process::Abort;
 
 /// How much a world takes at once, the call that fails, and the lengths of lines that are typed behind one another: how many of them are
 /// typed whole, the calls, and how many bytes are typed.
@@ -28,61 +29,54 @@ pub const CODES: &str = r#"codes => Ok("Aa0 *...\n")"#;
 const LINE: [u8; 8] = [0xC1, 0x81, 0xF0, 0x40, 0x5C, 0x00, 0x15, 0xFF];
 
 // Types a line of so many `A`, and says whether it is typed whole; adds what should be typed.
-fn type_letters(
+fn type_letters<R: Abort>(
+    rt: &R,
     alloc: Global,
     world: &mut PlainWorld<'_>,
     wanted: &mut Vec<u8>,
     length: usize,
-) -> Result<bool, AllocError> {
-    wanted.resize(wanted.len().saturating_add(length), b'A')?;
-    wanted.push(b'\n')?;
-    let line = vec![in alloc; 0xC1; length]?;
-    Ok(type_line(world, &line).is_ok())
+) -> bool {
+    let line = vec![in alloc; 0xC1; length].expect(rt, "memory");
+    let end = wanted.len().saturating_add(length);
+    wanted.resize(end, b'A').expect(rt, "memory");
+    wanted.push(b'\n').expect(rt, "memory");
+    type_line(world, &line).is_ok()
 }
 
 // Types lines of these lengths, and says how many are typed whole.
-fn type_lines(
+fn type_lines<R: Abort>(
+    rt: &R,
     alloc: Global,
     world: &mut PlainWorld<'_>,
     wanted: &mut Vec<u8>,
     lengths: &str,
-) -> Result<u32, AllocError> {
+) -> u32 {
     let mut whole = 0_u32;
     for length in lengths.split(' ') {
-        if type_letters(alloc, world, wanted, number(length) as usize)? {
+        if type_letters(rt, alloc, world, wanted, number(length) as usize) {
             whole = whole.wrapping_add(1);
         }
     }
-    Ok(whole)
+    whole
 }
 
-// Adds what comes of typing lines of these lengths.
-fn push_typing(
-    into: &mut String,
-    alloc: Global,
-    world: &mut PlainWorld<'_>,
-    wanted: &mut Vec<u8>,
-    lengths: &str,
-) -> Result<(), AllocError> {
-    let whole = type_lines(alloc, world, wanted, lengths)?;
+/// Adds what comes of typing lines of `A`.
+pub fn push_typed<R: Abort>(into: &mut Report, rt: &R, alloc: Global, case: &str) {
+    let (how, lengths) = case.split_once(" of ").unwrap_or((case, ""));
+    let size = number(blank_word(how, 0)) as usize;
+    let failing = number(blank_word(how, 1)) as usize;
+    let mut world = in_pieces(alloc, b"", size, failing);
+    let mut wanted = Vec::new(alloc);
+    let whole = type_lines(rt, alloc, &mut world, &mut wanted, lengths);
     if !wanted.starts_with(&world.typed) {
         return into.push_str("other bytes");
     }
     write!(into, "{whole},{},{}", world.calls, world.typed.len())
 }
 
-/// Adds what comes of typing lines of `A`.
-pub fn push_typed(into: &mut String, alloc: Global, case: &str) -> Result<(), AllocError> {
-    let (how, lengths) = case.split_once(" of ").unwrap_or((case, ""));
-    let size = number(blank_word(how, 0)) as usize;
-    let failing = number(blank_word(how, 1)) as usize;
-    let mut world = in_pieces(alloc, b"", size, failing);
-    push_typing(into, alloc, &mut world, &mut Vec::new(alloc), lengths)
-}
-
 /// Adds what is typed of the line of codes.
-pub fn push_codes(into: &mut String, alloc: Global) -> Result<(), AllocError> {
+pub fn push_codes(into: &mut Report, alloc: Global) {
     let mut world = in_pieces(alloc, b"", 99, 0);
     let _ = type_line(&mut world, &LINE);
-    write!(into, "{:?}", str::from_utf8(&world.typed))
+    into.value(&str::from_utf8(&world.typed))
 }

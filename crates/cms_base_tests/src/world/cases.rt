@@ -1,7 +1,8 @@
 // The cases of the worlds in memory, and the test that tries them.
+use crate::cases::Asked;
 use crate::world::{memory, quiet, words};
-use cms_cases::{Subject, try_rows};
-use std::alloc::{AllocError, Global};
+use cms_cases::{Report, Subject, try_rows};
+use std::process::Abort;
 use std::test::Fail;
 
 // Whose cases they are.
@@ -19,17 +20,24 @@ const ROWS: &[(Cases, &str)] = &[
     (Cases::Words, words::ROWS),
 ];
 
-impl Subject for Cases {
-    fn answer(&self, alloc: Global, case: &str) -> Result<String, AllocError> {
-        match self {
-            Cases::Memory => memory::answer(alloc, case),
-            Cases::Quiet => quiet::answer(alloc, case),
-            Cases::Words => words::answer(alloc, case),
+impl<R: Abort> Subject<Cases> for Asked<'_, R> {
+    fn tell(&self, kind: &Cases, case: &str, into: &mut Report) {
+        match kind {
+            Cases::Memory => memory::tell(into, self.rt, self.alloc, case),
+            Cases::Quiet => quiet::tell(into, self.rt, self.alloc, case),
+            Cases::Words => words::tell(into, self.rt, self.alloc, case),
         }
     }
 }
 
 #[test]
 fn worlds_answer(rt: HostRuntime) -> Result<(), Fail> {
-    try_rows(&rt, ROWS)
+    try_rows(
+        &rt,
+        &Asked {
+            rt: &rt,
+            alloc: rt.alloc(),
+        },
+        ROWS,
+    )
 }

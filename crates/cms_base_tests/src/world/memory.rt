@@ -2,9 +2,10 @@
 use crate::world::steps::{
     access, filling, push_bytes, push_done, step_number, step_word, unit_of,
 };
-use cms_cases::{number, word};
+use cms_cases::{Report, number, word};
 use cms_world::{Access, MemWorld, World};
-use std::alloc::{AllocError, Global};
+use std::alloc::Global;
+use std::process::Abort;
 
 /// `SCRIPT/CLOCK/STEP/STEP ..`: a world with this script, whose clock says this second first, and what is done with it, each step with
 /// what comes of it: a hyphen where it fails, or isn't done since what it needs doesn't hold.
@@ -51,13 +52,7 @@ fn attach(world: &mut MemWorld, name: &str, size: u32, access: Access) -> Option
     }
 }
 
-fn push_attached(
-    into: &mut String,
-    world: &mut MemWorld,
-    name: &str,
-    size: u32,
-    access: Access,
-) -> Result<(), AllocError> {
+fn push_attached(into: &mut Report, world: &mut MemWorld, name: &str, size: u32, access: Access) {
     match attach(world, name, size, access) {
         Some(blocks) => write!(into, "{blocks}"),
         None => into.push('-'),
@@ -84,7 +79,7 @@ fn sync(world: &mut MemWorld, unit: u8) -> bool {
 }
 
 // Adds the letter that fills a block.
-fn push_letter(into: &mut String, block: &[u8]) -> Result<(), AllocError> {
+fn push_letter(into: &mut Report, block: &[u8]) {
     into.push(match filling(block) {
         Some(0) => '0',
         Some(letter) => char::from(letter),
@@ -92,12 +87,7 @@ fn push_letter(into: &mut String, block: &[u8]) -> Result<(), AllocError> {
     })
 }
 
-fn push_block(
-    into: &mut String,
-    world: &mut MemWorld,
-    unit: u8,
-    block: u32,
-) -> Result<(), AllocError> {
+fn push_block(into: &mut Report, world: &mut MemWorld, unit: u8, block: u32) {
     let mut bytes = [0; 512];
     if world.has_block(unit, block, 512) && world.read_block(unit, block, &mut bytes).is_ok() {
         return push_letter(into, &bytes);
@@ -105,14 +95,10 @@ fn push_block(
     into.push('-')
 }
 
-fn push_read(
-    into: &mut String,
-    world: &mut MemWorld,
-    bytes: &mut [u8; 3],
-) -> Result<(), AllocError> {
+fn push_read(into: &mut Report, world: &mut MemWorld, bytes: &mut [u8; 3]) {
     match world.read(bytes) {
-        Ok(count) => write!(into, "{count} ")?,
-        Err(_) => into.push_str("- ")?,
+        Ok(count) => write!(into, "{count} "),
+        Err(_) => into.push_str("- "),
     }
     push_bytes(into, bytes)
 }
@@ -121,7 +107,7 @@ fn type_out(world: &mut MemWorld, bytes: &[u8]) -> bool {
     bytes.len() > 0 && world.type_out(bytes) == Ok(bytes.len())
 }
 
-fn push_time(into: &mut String, world: &mut MemWorld) -> Result<(), AllocError> {
+fn push_time(into: &mut Report, world: &mut MemWorld) {
     match world.now() {
         Ok(seconds) => write!(into, "{seconds}"),
         Err(_) => into.push('-'),
@@ -129,52 +115,46 @@ fn push_time(into: &mut String, world: &mut MemWorld) -> Result<(), AllocError> 
 }
 
 // Blocks of the letters before a plus sign, and what stands behind it.
-fn image(alloc: Global, letters: &str) -> Result<Vec<u8>, AllocError> {
+fn image<R: Abort>(rt: &R, alloc: Global, letters: &str) -> Vec<u8> {
     let (letters, rest) = letters.split_once('+').unwrap_or((letters, ""));
     let mut bytes = Vec::new(alloc);
     for letter in letters.as_bytes() {
-        bytes.extend_from_slice(&[*letter; 512])?;
+        bytes
+            .extend_from_slice(&[*letter; 512])
+            .expect(rt, "memory");
     }
-    bytes.extend_from_slice(rest.as_bytes())?;
-    Ok(bytes)
+    bytes
+        .extend_from_slice(rest.as_bytes())
+        .expect(rt, "memory");
+    bytes
 }
 
-fn add_image(
-    alloc: Global,
-    world: &mut MemWorld,
-    name: &str,
-    letters: &str,
-) -> Result<(), AllocError> {
-    world.add_image(name, &image(alloc, letters)?)
+fn add_image<R: Abort>(rt: &R, alloc: Global, world: &mut MemWorld, name: &str, letters: &str) {
+    let image = image(rt, alloc, letters);
+    world.add_image(name, &image).expect(rt, "memory")
 }
 
 // Of two plans for one call the later holds.
-fn fail_at(world: &mut MemWorld, call: u32, lands: bool) -> Result<(), AllocError> {
-    world.fail_at(call, !lands)?;
-    world.fail_at(call, lands)
+fn fail_at<R: Abort>(rt: &R, world: &mut MemWorld, call: u32, lands: bool) {
+    world.fail_at(call, !lands).expect(rt, "memory");
+    world.fail_at(call, lands).expect(rt, "memory")
 }
 
-// What a crash leaves of unit 0, where there is such a unit and there are so many events.
-fn left(alloc: Global, world: &MemWorld, at: usize, choice: u64) -> Result<Vec<u8>, AllocError> {
-    if world.has_unit(0) && at <= world.events() {
-        world.crash(alloc, 0, at, choice)
-    } else {
-        Ok(Vec::new(alloc))
-    }
-}
-
-// Adds the letters of the blocks of unit 0 that a crash leaves.
-fn push_crash(
-    into: &mut String,
+// Adds the letters of the blocks of unit 0 that a crash leaves, where there is such a unit and there are so many events.
+fn push_crash<R: Abort>(
+    into: &mut Report,
+    rt: &R,
     alloc: Global,
     world: &MemWorld,
     at: usize,
     choice: u64,
-) -> Result<(), AllocError> {
-    for block in left(alloc, world, at, choice)?.chunks(512) {
-        push_letter(into, block)?;
+) {
+    if world.has_unit(0) && at <= world.events() {
+        let left = world.crash(alloc, 0, at, choice).expect(rt, "memory");
+        for block in left.chunks(512) {
+            push_letter(into, block);
+        }
     }
-    Ok(())
 }
 
 fn letter_of(word: &str) -> u8 {
@@ -182,7 +162,7 @@ fn letter_of(word: &str) -> u8 {
 }
 
 // Adds what comes of what is done with a unit.
-fn push_unit_step(into: &mut String, world: &mut MemWorld, step: &str) -> Result<(), AllocError> {
+fn push_unit_step(into: &mut Report, world: &mut MemWorld, step: &str) {
     let unit = unit_of(step);
     let block = step_number(step, 2);
     match step_word(step, 0) {
@@ -201,9 +181,9 @@ fn push_unit_step(into: &mut String, world: &mut MemWorld, step: &str) -> Result
 }
 
 // Adds what the world has kept, or what comes of what is done with a unit.
-fn push_kept(into: &mut String, world: &mut MemWorld, step: &str) -> Result<(), AllocError> {
+fn push_kept(into: &mut Report, world: &mut MemWorld, step: &str) {
     match step_word(step, 0) {
-        "events" => write!(into, "{}", world.events()),
+        "events" => into.value(&world.events()),
         "typed" => push_bytes(into, world.typed()),
         "calls" => push_bytes(into, world.calls()),
         _ => push_unit_step(into, world, step),
@@ -211,17 +191,18 @@ fn push_kept(into: &mut String, world: &mut MemWorld, step: &str) -> Result<(), 
 }
 
 // Adds what comes of a step.
-fn push_step(
-    into: &mut String,
+fn push_step<R: Abort>(
+    into: &mut Report,
+    rt: &R,
     alloc: Global,
     world: &mut MemWorld,
     bytes: &mut [u8; 3],
     step: &str,
-) -> Result<(), AllocError> {
+) {
     let first = step_word(step, 1);
     let second = step_word(step, 2);
     match step_word(step, 0) {
-        "image" => add_image(alloc, world, first, second),
+        "image" => add_image(rt, alloc, world, first, second),
         "attach" => push_attached(
             into,
             world,
@@ -232,9 +213,10 @@ fn push_step(
         "read" => push_read(into, world, bytes),
         "type" => push_done(into, type_out(world, first.as_bytes())),
         "now" => push_time(into, world),
-        "fail" => fail_at(world, number(first), second == "landed"),
+        "fail" => fail_at(rt, world, number(first), second == "landed"),
         "crash" => push_crash(
             into,
+            rt,
             alloc,
             world,
             number(first) as usize,
@@ -245,25 +227,30 @@ fn push_step(
 }
 
 // The first step that doesn't come to what it says, with what it comes to; `true` where each does.
-fn first_other(alloc: Global, world: &mut MemWorld, case: &str) -> Result<String, AllocError> {
+fn push_first_other<R: Abort>(
+    into: &mut Report,
+    rt: &R,
+    alloc: Global,
+    world: &mut MemWorld,
+    case: &str,
+) {
     let mut bytes = [b'.'; 3];
     for step in case.split('/').skip(2) {
-        let mut found = String::new(alloc);
+        let mut found = Report::new(alloc);
         let (what, wanted) = step.split_once(" = ").unwrap_or((step, ""));
-        push_step(&mut found, alloc, world, &mut bytes, what)?;
-        if found.as_str() != wanted {
-            return format!(in alloc; "{what} = {found}");
+        push_step(&mut found, rt, alloc, world, &mut bytes, what);
+        if found.text() != wanted {
+            return write!(into, "{what} = {}", found.text());
         }
     }
-    String::from_str(alloc, "true")
+    into.push_str("true")
 }
 
-/// Whether each step comes to what it says, or the first that doesn't.
-pub fn answer(alloc: Global, case: &str) -> Result<String, AllocError> {
+/// Tells whether each step comes to what it says, or the first that doesn't.
+pub fn tell<R: Abort>(into: &mut Report, rt: &R, alloc: Global, case: &str) {
     let script = word(case, 0).as_bytes();
     let start = word(case, 1).parse().unwrap_or(0);
-    let mut world = MemWorld::new(alloc, script, start)?;
-    let other = first_other(alloc, &mut world, case);
-    drop(world);
-    other
+    let mut world = MemWorld::new(alloc, script, start).expect(rt, "memory");
+    push_first_other(into, rt, alloc, &mut world, case);
+    drop(world)
 }

@@ -2,8 +2,10 @@
 use crate::world::steps::{
     access, filling, push_bytes, push_done, step_number, step_word, unit_of,
 };
+use cms_cases::Report;
 use cms_world::{Access, Image, ImageList, QuietWorld, World};
-use std::alloc::{AllocError, Global};
+use std::alloc::Global;
+use std::process::Abort;
 
 /// Steps with strokes between them, each with what comes of it, in a world of three images: `a` of 1,100 bytes 7, `b` of 512 bytes 9, and
 /// another `a`, which is never found. The script is `TYPE`.
@@ -21,34 +23,32 @@ attach a ro = 4 2/block 4 1 = 5/block 4 2 = 7 => true
 many a 256 = ./attach b ro = 255 1/block 255 1 = 9/block 254 1 = 7 => true
 read = 3 TYP/read = 1 EYP/read = 0 EYP/type R; = 2/now = 0 => true";
 
-fn image(alloc: Global, name: &str, byte: u8, size: usize) -> Result<Image, AllocError> {
-    Ok(Image {
-        name: String::from_str(alloc, name)?,
-        bytes: vec![in alloc; byte; size]?,
-    })
+fn image<R: Abort>(rt: &R, alloc: Global, name: &str, byte: u8, size: usize) -> Image {
+    Image {
+        name: String::from_str(alloc, name).expect(rt, "memory"),
+        bytes: vec![in alloc; byte; size].expect(rt, "memory"),
+    }
 }
 
-fn world(alloc: Global) -> Result<QuietWorld, AllocError> {
+fn world<R: Abort>(rt: &R, alloc: Global) -> QuietWorld {
     let mut images = ImageList::new(alloc);
     for (name, byte, size) in [("a", 7, 1100), ("b", 9, 512), ("a", 8, 2048)] {
-        images.push(image(alloc, name, byte, size)?)?;
+        let image = image(rt, alloc, name, byte, size);
+        images.push(image).expect(rt, "memory");
     }
-    let script = b"TYPE".as_slice().to_vec(alloc)?;
-    Ok(QuietWorld::new(images, script))
+    let script = b"TYPE".as_slice().to_vec(alloc).expect(rt, "memory");
+    QuietWorld::new(images, script)
 }
 
 // The number and the blocks of a unit that is attached.
 fn attach(world: &mut QuietWorld, name: &str, access: Access) -> Option<(u8, u32)> {
-    let unit = world.attach(name, 512, access).ok()?;
-    Some((unit.number, unit.blocks))
+    match world.attach(name, 512, access) {
+        Ok(unit) => Some((unit.number, unit.blocks)),
+        Err(_) => None,
+    }
 }
 
-fn push_attached(
-    into: &mut String,
-    world: &mut QuietWorld,
-    name: &str,
-    access: Access,
-) -> Result<(), AllocError> {
+fn push_attached(into: &mut Report, world: &mut QuietWorld, name: &str, access: Access) {
     match attach(world, name, access) {
         Some((unit, blocks)) => write!(into, "{unit} {blocks}"),
         None => into.push('-'),
@@ -70,48 +70,30 @@ fn write(world: &mut QuietWorld, unit: u8) -> bool {
     world.write_block(unit, 1, &[5; 512]).is_ok() && world.sync(unit).is_ok()
 }
 
-fn push_block(
-    into: &mut String,
-    world: &mut QuietWorld,
-    unit: u8,
-    block: u32,
-) -> Result<(), AllocError> {
+fn push_block(into: &mut Report, world: &mut QuietWorld, unit: u8, block: u32) {
     let mut bytes = [1; 512];
     let is_read = world.read_block(unit, block, &mut bytes).is_ok();
     match filling(&bytes) {
-        Some(byte) if is_read => write!(into, "{byte}"),
+        Some(byte) if is_read => into.value(&byte),
         _ => into.push('-'),
     }
 }
 
-fn push_read(
-    into: &mut String,
-    world: &mut QuietWorld,
-    bytes: &mut [u8; 3],
-) -> Result<(), AllocError> {
-    write!(into, "{} ", world.read(bytes).unwrap_or(9))?;
+fn push_read(into: &mut Report, world: &mut QuietWorld, bytes: &mut [u8; 3]) {
+    write!(into, "{} ", world.read(bytes).unwrap_or(9));
     push_bytes(into, bytes)
 }
 
-fn push_typed(into: &mut String, world: &mut QuietWorld, bytes: &[u8]) -> Result<(), AllocError> {
+fn push_typed(into: &mut Report, world: &mut QuietWorld, bytes: &[u8]) {
     if bytes.len() > 0 {
-        write!(into, "{}", world.type_out(bytes).unwrap_or(9))
+        into.value(&world.type_out(bytes).unwrap_or(9))
     } else {
         into.push('-')
     }
 }
 
-fn push_time(into: &mut String, world: &mut QuietWorld) -> Result<(), AllocError> {
-    write!(into, "{}", world.now().unwrap_or(9))
-}
-
 // Adds what comes of a step.
-fn push_step(
-    into: &mut String,
-    world: &mut QuietWorld,
-    bytes: &mut [u8; 3],
-    step: &str,
-) -> Result<(), AllocError> {
+fn push_step(into: &mut Report, world: &mut QuietWorld, bytes: &mut [u8; 3], step: &str) {
     let name = step_word(step, 1);
     match step_word(step, 0) {
         "attach" => push_attached(into, world, name, access(step_word(step, 2))),
@@ -120,29 +102,27 @@ fn push_step(
         "block" => push_block(into, world, unit_of(step), step_number(step, 2)),
         "read" => push_read(into, world, bytes),
         "type" => push_typed(into, world, name.as_bytes()),
-        "now" => push_time(into, world),
+        "now" => into.value(&world.now().unwrap_or(9)),
         _ => into.push('?'),
     }
 }
 
 // The first step that doesn't come to what it says, with what it comes to; `true` where each does.
-fn first_other(alloc: Global, world: &mut QuietWorld, steps: &str) -> Result<String, AllocError> {
+fn push_first_other(into: &mut Report, alloc: Global, world: &mut QuietWorld, steps: &str) {
     let mut bytes = [0; 3];
     for step in steps.split('/') {
-        let mut found = String::new(alloc);
+        let mut found = Report::new(alloc);
         let (what, wanted) = step.split_once(" = ").unwrap_or((step, ""));
-        push_step(&mut found, world, &mut bytes, what)?;
-        if found.as_str() != wanted {
-            return format!(in alloc; "{what} = {found}");
+        push_step(&mut found, world, &mut bytes, what);
+        if found.text() != wanted {
+            return write!(into, "{what} = {}", found.text());
         }
     }
-    String::from_str(alloc, "true")
+    into.push_str("true")
 }
 
-/// Whether each step comes to what it says, or the first that doesn't.
-pub fn answer(alloc: Global, case: &str) -> Result<String, AllocError> {
-    let mut world = world(alloc)?;
-    let other = first_other(alloc, &mut world, case);
-    drop(world);
-    other
+/// Tells whether each step comes to what it says, or the first that doesn't.
+pub fn tell<R: Abort>(into: &mut Report, rt: &R, alloc: Global, case: &str) {
+    let mut world = world(rt, alloc);
+    push_first_other(into, alloc, &mut world, case)
 }

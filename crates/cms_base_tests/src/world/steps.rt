@@ -1,7 +1,6 @@
 // What the steps of a world's sessions say.
-use cms_cases::number;
+use cms_cases::{Report, number};
 use cms_world::Access;
-use std::alloc::AllocError;
 
 /// The word of a step at a place, from 0, where blanks stand between the words. Empty where there is none.
 pub fn step_word(step: &str, place: usize) -> &str {
@@ -28,12 +27,12 @@ pub fn access(word: &str) -> Access {
 }
 
 /// Adds a period where something was done, and a hyphen where not.
-pub fn push_done(into: &mut String, done: bool) -> Result<(), AllocError> {
+pub fn push_done(into: &mut Report, done: bool) {
     into.push(if done { '.' } else { '-' })
 }
 
 /// Adds bytes as the text that they are.
-pub fn push_bytes(into: &mut String, bytes: &[u8]) -> Result<(), AllocError> {
+pub fn push_bytes(into: &mut Report, bytes: &[u8]) {
     into.push_str(str::from_utf8(bytes).unwrap_or("?"))
 }
 

@@ -1,7 +1,8 @@
 // The words of a program, and the names of images.
-use cms_cases::{told, word};
+use cms_cases::{Report, word};
 use cms_world::{Argv, ImageName};
-use std::alloc::{AllocError, Global};
+use std::alloc::Global;
+use std::process::Abort;
 
 /// `len`: how many words there are of `cms`, an empty one and `191,512,rw,disk`; `get/PLACE`: the one at a place; `name/TEXT`: an image's
 /// name.
@@ -13,26 +14,28 @@ get/3 => None
 get/18446744073709551615 => None
 name/a name => "a name""#;
 
-fn argv(alloc: Global) -> Result<Argv, AllocError> {
+fn argv<R: Abort>(rt: &R, alloc: Global) -> Argv {
     let mut words = Argv::new(alloc);
     for word in ["cms", "", "191,512,rw,disk"] {
-        words.push(word)?;
+        words.push(word).expect(rt, "memory");
     }
-    Ok(words)
+    words
 }
 
-fn word_at(alloc: Global, place: &str) -> Result<String, AllocError> {
-    let Ok(place) = place.parse() else {
-        return Err(AllocError);
-    };
-    told(alloc, &argv(alloc)?.get(place))
+fn tell_word<R: Abort>(into: &mut Report, rt: &R, alloc: Global, place: &str) {
+    let place = place.parse().expect(rt, "a place");
+    into.value(&argv(rt, alloc).get(place))
 }
 
-/// What a case comes to.
-pub fn answer(alloc: Global, case: &str) -> Result<String, AllocError> {
+/// Tells what a case comes to.
+pub fn tell<R: Abort>(into: &mut Report, rt: &R, alloc: Global, case: &str) {
     match word(case, 0) {
-        "len" => told(alloc, &argv(alloc)?.len()),
-        "get" => word_at(alloc, word(case, 1)),
-        _ => told(alloc, &ImageName::of(alloc, word(case, 1))?.text()),
+        "len" => into.value(&argv(rt, alloc).len()),
+        "get" => tell_word(into, rt, alloc, word(case, 1)),
+        _ => into.value(
+            &ImageName::of(alloc, word(case, 1))
+                .expect(rt, "memory")
+                .text(),
+        ),
     }
 }

@@ -1,7 +1,8 @@
 // The cases of volumes, and the test that tries them.
+use crate::cases::Asked;
 use crate::edf::{drafts, empty_volumes, openings, written_files};
-use cms_cases::{Subject, try_rows};
-use std::alloc::{AllocError, Global};
+use cms_cases::{Report, Subject, try_rows};
+use std::process::Abort;
 use std::test::Fail;
 
 // Whose cases they are.
@@ -22,18 +23,25 @@ const ROWS: &[(Cases, &str)] = &[
     (Cases::Writing, written_files::ROWS),
 ];
 
-impl Subject for Cases {
-    fn answer(&self, alloc: Global, case: &str) -> Result<String, AllocError> {
-        match self {
-            Cases::Opening => openings::answer(alloc, case),
-            Cases::Drafting => drafts::answer(alloc, case),
-            Cases::Making => empty_volumes::answer(alloc, case),
-            Cases::Writing => written_files::answer(alloc, case),
+impl<R: Abort> Subject<Cases> for Asked<'_, R> {
+    fn tell(&self, kind: &Cases, case: &str, into: &mut Report) {
+        match kind {
+            Cases::Opening => openings::tell(into, self.rt, self.alloc, case),
+            Cases::Drafting => drafts::tell(into, self.rt, self.alloc, case),
+            Cases::Making => empty_volumes::tell(into, self.rt, self.alloc, case),
+            Cases::Writing => written_files::tell(into, self.rt, self.alloc, case),
         }
     }
 }
 
 #[test]
 fn volumes_answer(rt: HostRuntime) -> Result<(), Fail> {
-    try_rows(&rt, ROWS)
+    try_rows(
+        &rt,
+        &Asked {
+            rt: &rt,
+            alloc: rt.alloc(),
+        },
+        ROWS,
+    )
 }

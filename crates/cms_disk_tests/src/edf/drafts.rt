@@ -3,13 +3,13 @@ ghost use Rattle.std.specs.Prelude.{IfSome};
 ghost use Rattle.cms_edf.specs.FileDrafts.{CanDraft};
 
 use crate::edf::volumes::open;
-use cms_cases::{number, told, word};
+use cms_cases::{Report, number, word};
 use cms_edf::{DraftShape, Held, plan_draft};
 use cms_images::{NOON, file_named, image_named, world_with};
 use cms_journal::BlockSize;
 use cms_names::Format;
-use cms_world::MemWorld;
-use std::alloc::{AllocError, Global};
+use std::alloc::Global;
+use std::process::Abort;
 
 /// An image, the letter of a file's name, and the length and the number of its records; and why it isn't planned. What is needed may be
 /// all that is free; an old file's block isn't free before the label is written; and limits come before the room.
@@ -45,41 +45,34 @@ pub fn shaped(format: Format, length: u32, count: u32, bytes: u64) -> Option<Dra
 
 // Plans the file of a case in its volume.
 #[tactic(auto, unfolding(cms_fields::specs::Stamps::is_stamp, cms_fields::specs::Stamps::days_of_month))]
-fn plan_in(alloc: Global, held: &mut Held, case: &str) -> Result<String, AllocError> {
+fn tell_plan(into: &mut Report, alloc: Global, held: &mut Held, case: &str) {
     let (length, count) = (number(word(case, 2)), number(word(case, 3)));
     let bytes = u64::from(length).saturating_mul(u64::from(count));
     let Some(asked) = shaped(Format::F, length, count, bytes) else {
-        return String::from_str(alloc, "no file");
+        return into.push_str("no file");
     };
     let Some(name) = file_named(word(case, 1)) else {
-        return String::from_str(alloc, "no name");
+        return into.push_str("no name");
     };
     match plan_draft(alloc, held, &name, &asked, &NOON) {
         Ok(draft) => {
             drop(draft);
-            String::from_str(alloc, "planned")
+            into.push_str("planned")
         }
-        Err(why) => told(alloc, &why),
+        Err(why) => into.value(&why),
     }
 }
 
-// A world with the image of a case.
-fn world_of(alloc: Global, case: &str) -> Result<MemWorld, AllocError> {
-    let image = image_named(alloc, word(case, 0))?;
-    world_with(alloc, &image, 0, false)
-}
-
-/// What a case comes to.
-pub fn answer(alloc: Global, case: &str) -> Result<String, AllocError> {
-    let mut world = world_of(alloc, case)?;
-    let answer = match open(alloc, &mut world, BlockSize::new(512)) {
+/// Tells what a case comes to.
+pub fn tell<R: Abort>(into: &mut Report, rt: &R, alloc: Global, case: &str) {
+    let image = image_named(alloc, word(case, 0)).expect(rt, "memory");
+    let mut world = world_with(alloc, &image, 0, false).expect(rt, "memory");
+    match open(alloc, &mut world, BlockSize::new(512)) {
         Ok(mut held) => {
-            let planned = plan_in(alloc, &mut held, case);
-            drop(held);
-            planned
+            tell_plan(into, alloc, &mut held, case);
+            drop(held)
         }
-        Err(fault) => told(alloc, &fault),
-    };
-    drop(world);
-    answer
+        Err(fault) => into.value(&fault),
+    }
+    drop(world)
 }

@@ -1,11 +1,12 @@
 // Empty volumes that are made on the units of a world in memory.
-use crate::edf::volumes::{TEST01, opened, state};
-use cms_cases::{number, told, word};
+use crate::edf::volumes::{TEST01, push_opened, push_state};
+use cms_cases::{Report, number, word};
 use cms_edf::{Doubt, Held, make, plan_make, wipe};
 use cms_images::{Made, NOON, calls_of, formatted, image_left, image_named, world_with};
 use cms_journal::BlockSize;
 use cms_world::{Access, MemWorld, World};
-use std::alloc::{AllocError, Global};
+use std::alloc::Global;
+use std::process::Abort;
 
 /// Volumes that are made on zeros: the bytes of a block, the blocks, and how many data blocks the map has and pointer blocks over these;
 /// and what is made, whether its bytes are as they should be, and what opens then, each as the volume id, the bytes of a block, the
@@ -124,27 +125,28 @@ fn make_on(alloc: Global, world: &mut MemWorld, size: BlockSize) -> Result<Held,
     }
 }
 
-// The state of the volume that is made, or why none is.
-fn made(alloc: Global, world: &mut MemWorld, size: BlockSize) -> Result<String, AllocError> {
+// Adds the state of the volume that is made, or why none is.
+fn push_made(into: &mut Report, alloc: Global, world: &mut MemWorld, size: BlockSize) {
     match make_on(alloc, world, size) {
         Ok(held) => {
-            let state = state(alloc, &held);
-            drop(held);
-            state
+            push_state(into, &held);
+            drop(held)
         }
-        Err(why) => told(alloc, &why),
+        Err(why) => into.value(&why),
     }
 }
 
-// The state of what opens in what a crash leaves.
-fn opened_left(
+// Adds the state of what opens in what a crash leaves.
+fn push_left<R: Abort>(
+    into: &mut Report,
+    rt: &R,
     alloc: Global,
     world: &MemWorld,
     at: usize,
     choice: u64,
-) -> Result<String, AllocError> {
-    let image = image_left(alloc, world, at, choice)?;
-    opened(alloc, &image, BlockSize::new(512))
+) {
+    let image = image_left(alloc, world, at, choice).expect(rt, "memory");
+    push_opened(into, rt, alloc, &image, BlockSize::new(512))
 }
 
 // The shape of a volume that is made on zeros.
@@ -157,53 +159,39 @@ fn shape_of(case: &str) -> Made {
     }
 }
 
-// A world with zeros for a volume of a shape.
-fn zeros(alloc: Global, shape: &Made) -> Result<MemWorld, AllocError> {
-    let count = (shape.bsize as usize).saturating_mul(shape.total as usize);
-    let image = vec![in alloc; 0; count]?;
-    world_with(alloc, &image, 0, false)
-}
-
-// Whether an image has the bytes of a volume of a shape.
-fn bytes_of(alloc: Global, shape: &Made, image: &[u8]) -> Result<&'static str, AllocError> {
-    if formatted(alloc, shape)?.as_slice() == image {
-        Ok("byte for byte")
-    } else {
-        Ok("with other bytes")
-    }
-}
-
-// What was made on zeros, whether it has the bytes of a volume of a shape, and what opens in it.
-fn held_on(
+// Adds whether the image that was made has the bytes of a volume of a shape, and what opens in it.
+fn push_held<R: Abort>(
+    into: &mut Report,
+    rt: &R,
     alloc: Global,
     shape: &Made,
     size: BlockSize,
     world: &MemWorld,
-    made: &str,
-) -> Result<String, AllocError> {
-    let image = image_left(alloc, world, world.events(), 0)?;
-    let bytes = bytes_of(alloc, shape, &image)?;
-    let opened = opened(alloc, &image, size)?;
-    format!(in alloc; "{made}, {bytes}, {opened}")
-}
-
-// Makes a volume in a world with zeros.
-fn made_in(
-    alloc: Global,
-    world: &mut MemWorld,
-    shape: &Made,
-    size: BlockSize,
-) -> Result<String, AllocError> {
-    let made = made(alloc, world, size)?;
-    held_on(alloc, shape, size, world, made.as_str())
+) {
+    let image = image_left(alloc, world, world.events(), 0).expect(rt, "memory");
+    let wanted = formatted(alloc, shape).expect(rt, "memory");
+    into.push_str(if image == wanted {
+        ", byte for byte, "
+    } else {
+        ", with other bytes, "
+    });
+    push_opened(into, rt, alloc, &image, size)
 }
 
 // Makes a volume on zeros.
-fn made_on_zeros(alloc: Global, shape: &Made, size: BlockSize) -> Result<String, AllocError> {
-    let mut world = zeros(alloc, shape)?;
-    let told = made_in(alloc, &mut world, shape, size);
-    drop(world);
-    told
+fn tell_on_zeros<R: Abort>(
+    into: &mut Report,
+    rt: &R,
+    alloc: Global,
+    shape: &Made,
+    size: BlockSize,
+) {
+    let count = (shape.bsize as usize).saturating_mul(shape.total as usize);
+    let image = vec![in alloc; 0; count].expect(rt, "memory");
+    let mut world = world_with(alloc, &image, 0, false).expect(rt, "memory");
+    push_made(into, alloc, &mut world, size);
+    push_held(into, rt, alloc, shape, size, &world);
+    drop(world)
 }
 
 // A block of an image.
@@ -227,20 +215,14 @@ fn letter(found: &[u8], before: &[u8], after: &[u8]) -> char {
 }
 
 // Adds a letter for each of the nine blocks.
-fn push_letters(
-    into: &mut String,
-    found: &[u8],
-    before: &[u8],
-    after: &[u8],
-) -> Result<(), AllocError> {
+fn push_letters(into: &mut Report, found: &[u8], before: &[u8], after: &[u8]) {
     for number in 1..10 {
         into.push(letter(
             block(found, number),
             block(before, number),
             block(after, number),
-        ))?;
+        ));
     }
-    Ok(())
 }
 
 const SMALL: Made = Made {
@@ -251,79 +233,65 @@ const SMALL: Made = Made {
 };
 
 // Adds how the blocks are after so many events.
-fn push_blocks(
-    into: &mut String,
-    alloc: Global,
-    world: &MemWorld,
-    at: usize,
-) -> Result<(), AllocError> {
-    let before = image_named(alloc, "hello")?;
-    let after = formatted(alloc, &SMALL)?;
-    let found = image_left(alloc, world, at, u64::MAX)?;
+fn push_blocks<R: Abort>(into: &mut Report, rt: &R, alloc: Global, world: &MemWorld, at: usize) {
+    let before = image_named(alloc, "hello").expect(rt, "memory");
+    let after = formatted(alloc, &SMALL).expect(rt, "memory");
+    let found = image_left(alloc, world, at, u64::MAX).expect(rt, "memory");
     push_letters(into, &found, &before, &after)
 }
 
-// The same alone.
-fn blocks(alloc: Global, world: &MemWorld, at: usize) -> Result<String, AllocError> {
-    let mut text = String::new(alloc);
-    push_blocks(&mut text, alloc, world, at)?;
-    Ok(text)
-}
-
-// What was made, and the letters of all calls.
-fn calls(alloc: Global, world: &MemWorld, made: &str) -> Result<String, AllocError> {
-    format!(in alloc; "{made}, {}", calls_of(world))
-}
-
-// What was made, how many events there are, and what opens then.
-fn ended(alloc: Global, world: &MemWorld, made: &str) -> Result<String, AllocError> {
-    let left = opened_left(alloc, world, world.events(), u64::MAX)?;
-    format!(in alloc; "{made}, {} events, {left}", world.events())
-}
-
-// What is asked of a world in which a volume was made over another one, with what was made.
-fn asked(alloc: Global, world: &MemWorld, case: &str, made: &str) -> Result<String, AllocError> {
-    let at = number(word(case, 1)) as usize;
-    match word(case, 0) {
-        "blocks" => blocks(alloc, world, at),
-        "crash" => opened_left(alloc, world, at, u64::from(number(word(case, 2)))),
-        "calls" => calls(alloc, world, made),
-        _ => ended(alloc, world, made),
+// Makes a volume in a world with another one, and tells what is made, and the letters of all calls or how many events there are and what
+// opens then.
+fn tell_made<R: Abort>(into: &mut Report, rt: &R, alloc: Global, world: &mut MemWorld, case: &str) {
+    push_made(into, alloc, world, BlockSize::new(512));
+    if word(case, 0) == "calls" {
+        return write!(into, ", {}", calls_of(world));
     }
+    write!(into, ", {} events, ", world.events());
+    push_left(into, rt, alloc, world, world.events(), u64::MAX)
 }
 
-// A world with a volume over which another one is made.
-fn used(alloc: Global, case: &str) -> Result<MemWorld, AllocError> {
+// Makes a volume in a world with another one, and tells what is left at a moment.
+fn tell_moment<R: Abort>(
+    into: &mut Report,
+    rt: &R,
+    alloc: Global,
+    world: &mut MemWorld,
+    case: &str,
+) {
+    push_made(&mut Report::new(alloc), alloc, world, BlockSize::new(512));
+    let at = number(word(case, 1)) as usize;
+    if word(case, 0) == "blocks" {
+        return push_blocks(into, rt, alloc, world, at);
+    }
+    let choice = u64::from(number(word(case, 2)));
+    push_left(into, rt, alloc, world, at, choice)
+}
+
+// Makes a volume over another one.
+fn tell_over<R: Abort>(into: &mut Report, rt: &R, alloc: Global, case: &str) {
     let failing = match word(case, 0) {
         "failing" => number(word(case, 1)),
         _ => 0,
     };
-    let image = image_named(alloc, "hello")?;
-    world_with(alloc, &image, failing, word(case, 2) == "landed")
+    let image = image_named(alloc, "hello").expect(rt, "memory");
+    let lands = word(case, 2) == "landed";
+    let mut world = world_with(alloc, &image, failing, lands).expect(rt, "memory");
+    match word(case, 0) {
+        "blocks" | "crash" => tell_moment(into, rt, alloc, &mut world, case),
+        _ => tell_made(into, rt, alloc, &mut world, case),
+    }
+    drop(world)
 }
 
-// Makes a volume in a world with another one.
-fn made_again(alloc: Global, world: &mut MemWorld, case: &str) -> Result<String, AllocError> {
-    let made = made(alloc, world, BlockSize::new(512))?;
-    asked(alloc, world, case, made.as_str())
-}
-
-// Makes a volume over another one.
-fn made_over(alloc: Global, case: &str) -> Result<String, AllocError> {
-    let mut world = used(alloc, case)?;
-    let told = made_again(alloc, &mut world, case);
-    drop(world);
-    told
-}
-
-/// What a case comes to.
-pub fn answer(alloc: Global, case: &str) -> Result<String, AllocError> {
+/// Tells what a case comes to.
+pub fn tell<R: Abort>(into: &mut Report, rt: &R, alloc: Global, case: &str) {
     if word(case, 0) != "zeros" {
-        return made_over(alloc, case);
+        return tell_over(into, rt, alloc, case);
     }
     let shape = shape_of(case);
     match BlockSize::of(shape.bsize) {
-        Some(size) => made_on_zeros(alloc, &shape, size),
-        None => String::from_str(alloc, "no size"),
+        Some(size) => tell_on_zeros(into, rt, alloc, &shape, size),
+        None => into.push_str("no size"),
     }
 }

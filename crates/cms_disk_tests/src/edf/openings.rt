@@ -1,12 +1,13 @@
 // What opens, and what is asked of it.
-use crate::edf::volumes::{open, state};
-use cms_cases::{number, told, word};
+use crate::edf::volumes::{open, push_state};
+use cms_cases::{Report, number, word};
 use cms_edf::{FileInfo, Held};
 use cms_images::{START, calls_of, file_named, image_named, put_texts, world_with};
 use cms_journal::BlockSize;
 use cms_names::Format;
 use cms_world::MemWorld;
-use std::alloc::{AllocError, Global};
+use std::alloc::Global;
+use std::process::Abort;
 
 /// What is done or asked, and of which image; an image that doesn't open says why not.
 ///
@@ -94,17 +95,11 @@ root/spanning/V => Some(9)
 calls/spanning => arrrrrr";
 
 // The length of the longest record, the stored bytes, the data blocks, the root, and the levels of the first file.
-fn first_file(alloc: Global, held: &Held) -> Result<String, AllocError> {
-    match held.by_name().first() {
-        Some((_, file)) => {
-            let entry = file.entry();
-            let (root, levels) = (entry.root, entry.levels);
-            told(
-                alloc,
-                &(file.length(), file.size(), file.leaves(), root, levels),
-            )
-        }
-        None => Ok(String::new(alloc)),
+fn push_first(into: &mut Report, held: &Held) {
+    if let Some((_, file)) = held.by_name().first() {
+        let entry = file.entry();
+        let (root, levels) = (entry.root, entry.levels);
+        into.value(&(file.length(), file.size(), file.leaves(), root, levels))
     }
 }
 
@@ -125,19 +120,17 @@ fn is_told(held: &Held) -> bool {
     held.count() == 1 && held.info(0) == wanted
 }
 
-fn first_leaves(alloc: Global, held: &Held) -> Result<String, AllocError> {
-    if held.count() == 0 {
-        return Ok(String::new(alloc));
+fn push_leaves(into: &mut Report, held: &Held) {
+    if held.count() > 0 {
+        into.value(&held.leaves(0))
     }
-    told(alloc, &held.leaves(0))
 }
 
 // The stored bytes of the first file.
-fn first_stored(alloc: Global, held: &Held) -> Result<String, AllocError> {
-    if held.count() == 0 {
-        return Ok(String::new(alloc));
+fn push_stored(into: &mut Report, held: &Held) {
+    if held.count() > 0 {
+        into.value(&held.stored(0))
     }
-    told(alloc, &held.stored(0))
 }
 
 // Where the first record begins in the last data block of the first file.
@@ -159,54 +152,44 @@ fn root_of(held: &Held, letter: &str) -> Option<u32> {
 }
 
 // What is asked of a volume that opened in a world.
-fn asked(alloc: Global, case: &str, held: &Held, world: &MemWorld) -> Result<String, AllocError> {
+fn push_asked(into: &mut Report, case: &str, held: &Held, world: &MemWorld) {
     match word(case, 0) {
-        "sizes" => told(alloc, &(held.space().total, held.count(), held.lost())),
-        "state" => state(alloc, held),
-        "find" => told(alloc, &place_of(held, word(case, 2))),
-        "told" => told(alloc, &is_told(held)),
-        "leaves" => first_leaves(alloc, held),
-        "file" => first_file(alloc, held),
-        "stored" => first_stored(alloc, held),
-        "start" => told(alloc, &first_start(held)),
-        "root" => told(alloc, &root_of(held, word(case, 2))),
-        "calls" => String::from_str(alloc, calls_of(world)),
-        _ => String::from_str(alloc, "it opens"),
+        "sizes" => into.value(&(held.space().total, held.count(), held.lost())),
+        "state" => push_state(into, held),
+        "find" => into.value(&place_of(held, word(case, 2))),
+        "told" => into.value(&is_told(held)),
+        "leaves" => push_leaves(into, held),
+        "file" => push_first(into, held),
+        "stored" => push_stored(into, held),
+        "start" => into.value(&first_start(held)),
+        "root" => into.value(&root_of(held, word(case, 2))),
+        "calls" => into.push_str(calls_of(world)),
+        _ => into.push_str("it opens"),
     }
-}
-
-// The image of a case.
-fn image_of(alloc: Global, case: &str) -> Result<Vec<u8>, AllocError> {
-    let mut image = image_named(alloc, word(case, 1))?;
-    match word(case, 0) {
-        "changed" => put_texts(image.as_mut_slice(), word(case, 2)),
-        "cut" => image.truncate(number(word(case, 2)) as usize),
-        _ => {}
-    }
-    Ok(image)
 }
 
 // The world of a case.
-fn world_of(alloc: Global, case: &str) -> Result<MemWorld, AllocError> {
-    let failing = match word(case, 0) {
-        "failing" => number(word(case, 2)),
-        _ => 0,
-    };
-    let image = image_of(alloc, case)?;
-    world_with(alloc, &image, failing, false)
+fn world_of<R: Abort>(rt: &R, alloc: Global, case: &str) -> MemWorld {
+    let mut image = image_named(alloc, word(case, 1)).expect(rt, "memory");
+    let mut failing = 0;
+    match word(case, 0) {
+        "changed" => put_texts(image.as_mut_slice(), word(case, 2)),
+        "cut" => image.truncate(number(word(case, 2)) as usize),
+        "failing" => failing = number(word(case, 2)),
+        _ => {}
+    }
+    world_with(alloc, &image, failing, false).expect(rt, "memory")
 }
 
-/// What a case comes to.
-pub fn answer(alloc: Global, case: &str) -> Result<String, AllocError> {
-    let mut world = world_of(alloc, case)?;
-    let answer = match open(alloc, &mut world, BlockSize::new(512)) {
+/// Tells what a case comes to.
+pub fn tell<R: Abort>(into: &mut Report, rt: &R, alloc: Global, case: &str) {
+    let mut world = world_of(rt, alloc, case);
+    match open(alloc, &mut world, BlockSize::new(512)) {
         Ok(held) => {
-            let told = asked(alloc, case, &held, &world);
-            drop(held);
-            told
+            push_asked(into, case, &held, &world);
+            drop(held)
         }
-        Err(fault) => told(alloc, &fault),
-    };
-    drop(world);
-    answer
+        Err(fault) => into.value(&fault),
+    }
+    drop(world)
 }

@@ -1,10 +1,11 @@
 // Volumes on the units of worlds in memory, and what is told of them.
-use cms_cases::told;
+use cms_cases::Report;
 use cms_edf::{Held, OpenFault, open_volume};
 use cms_images::{Disk, world_with};
 use cms_journal::BlockSize;
 use cms_world::{Access, MemWorld, Unit, World};
-use std::alloc::{AllocError, Global};
+use std::alloc::Global;
+use std::process::Abort;
 
 /// TEST01, in EBCDIC.
 pub const TEST01: [u8; 6] = [0xE3, 0xC5, 0xE2, 0xE3, 0xF0, 0xF1];
@@ -29,8 +30,8 @@ pub fn volume_on(alloc: Global, world: &mut Disk) -> Option<Held> {
     open_volume(alloc, world, &unit, BlockSize::new(512)).ok()
 }
 
-/// The volume id, the bytes of a block, the blocks, those that are free, and the files.
-pub fn state(alloc: Global, held: &Held) -> Result<String, AllocError> {
+/// Adds the volume id, the bytes of a block, the blocks, those that are free, and the files.
+pub fn push_state(into: &mut Report, held: &Held) {
     let space = held.space();
     let volume = if space.volid == TEST01 {
         "TEST01"
@@ -38,20 +39,24 @@ pub fn state(alloc: Global, held: &Held) -> Result<String, AllocError> {
         "another"
     };
     let numbers = (space.bsize, space.total, space.free, held.count());
-    format!(in alloc; "{volume} {numbers:?}")
+    write!(into, "{volume} {numbers:?}")
 }
 
-/// The state of the volume that opens in an image, or why none does.
-pub fn opened(alloc: Global, image: &[u8], size: BlockSize) -> Result<String, AllocError> {
-    let mut world = world_with(alloc, image, 0, false)?;
-    let opened = match open(alloc, &mut world, size) {
+/// Adds the state of the volume that opens in an image, or why none does.
+pub fn push_opened<R: Abort>(
+    into: &mut Report,
+    rt: &R,
+    alloc: Global,
+    image: &[u8],
+    size: BlockSize,
+) {
+    let mut world = world_with(alloc, image, 0, false).expect(rt, "memory");
+    match open(alloc, &mut world, size) {
         Ok(held) => {
-            let state = state(alloc, &held);
-            drop(held);
-            state
+            push_state(into, &held);
+            drop(held)
         }
-        Err(fault) => told(alloc, &fault),
-    };
-    drop(world);
-    opened
+        Err(fault) => into.value(&fault),
+    }
+    drop(world)
 }

@@ -5,14 +5,15 @@ ghost use Rattle.cms_edf.specs.FileDrafts.{CanDraft, IsSomeDraft};
 ghost use Rattle.cms_held.specs.HeldVolumes.{HeldVolume};
 
 use crate::edf::drafts::shaped;
-use crate::edf::volumes::{opened, volume_on};
-use cms_cases::told;
+use crate::edf::volumes::{push_opened, volume_on};
+use cms_cases::Report;
 use cms_edf::{Change, Draft, DraftShape, Held, carry_out, commit, plan, plan_draft};
 use cms_images::known::put_number;
 use cms_images::{Disk, Event, Made, NOON, file_named, formatted, image_named};
 use cms_journal::BlockSize;
 use cms_names::{Format, Name};
 use std::alloc::{AllocError, Global};
+use std::process::Abort;
 
 /// What is done with a volume, and what is asked then.
 ///
@@ -38,15 +39,15 @@ grow => the old volume or the new
 fill => the old volume or the new
 shrink => the old volume or the new";
 
-// An empty volume of so many blocks, of which the first six are in use.
-fn empty_disk(alloc: Global, total: u32) -> Result<Disk, AllocError> {
+// The image of an empty volume of so many blocks, of which the first six are in use.
+fn empty_image(alloc: Global, total: u32) -> Result<Vec<u8>, AllocError> {
     let made = Made {
         bsize: 512,
         total,
         map: 1,
         pointers: 0,
     };
-    Disk::logged(alloc, &formatted(alloc, &made)?)
+    formatted(alloc, &made)
 }
 
 // The bytes that a record takes in a file of this format and length, if it may have it.
@@ -179,7 +180,7 @@ fn move_stamps(alloc: Global, world: &mut Disk) -> Option<()> {
 }
 
 // Adds the end of a row of blocks, if there was one, and the start of the next.
-fn push_between(into: &mut String, last: u32, block: u32) -> Result<(), AllocError> {
+fn push_between(into: &mut Report, last: u32, block: u32) {
     if last == 0 {
         write!(into, "{block}-")
     } else {
@@ -188,34 +189,28 @@ fn push_between(into: &mut String, last: u32, block: u32) -> Result<(), AllocErr
 }
 
 // Adds the blocks that are written up to the first sync, in rows.
-fn push_written(into: &mut String, events: &[Event]) -> Result<(), AllocError> {
+fn push_written(into: &mut Report, events: &[Event]) {
     let mut last = 0_u32;
     for event in events {
         let Event::Wrote { block, .. } = event else {
             return write!(into, "{last}");
         };
         if *block != last.saturating_add(1) {
-            push_between(into, last, *block)?;
+            push_between(into, last, *block);
         }
         last = *block;
     }
     write!(into, "{last}, and no sync")
 }
 
-fn written(alloc: Global, events: &[Event]) -> Result<String, AllocError> {
-    let mut text = String::new(alloc);
-    push_written(&mut text, events)?;
-    Ok(text)
-}
-
-// The first 24 bytes of a block, and whether all others are zeros.
-fn marks(alloc: Global, image: &[u8], block: usize) -> Result<String, AllocError> {
+// Adds the first 24 bytes of a block, and whether all others are zeros.
+fn push_marks(into: &mut Report, image: &[u8], block: usize) {
     let start = block.saturating_sub(1).saturating_mul(512);
     let bytes = image.get(start..start.saturating_add(512)).unwrap_or(&[]);
     let first = bytes.get(..24).unwrap_or(&[]);
     let rest = bytes.get(24..).unwrap_or(&[]);
     let zeros = rest.len() == 488 && rest.iter().all(|byte| *byte == 0);
-    format!(in alloc; "{first:?} {zeros}")
+    write!(into, "{first:?} {zeros}")
 }
 
 // The number at a place of a block.
@@ -236,76 +231,84 @@ fn length_told(image: &[u8], number: usize) -> Option<u32> {
     number_at(image, leaf, number % 8 * 64 + 32)
 }
 
-fn push_length(into: &mut String, length: Option<u32>) -> Result<(), AllocError> {
-    match length {
-        Some(length) => write!(into, "{length}"),
-        None => into.push('?'),
-    }
-}
-
-// The lengths that the entries of so many files tell.
-fn lengths_told(alloc: Global, image: &[u8], files: usize) -> Result<String, AllocError> {
-    let mut text = String::new(alloc);
+// Adds the lengths that the entries of so many files tell.
+fn push_lengths(into: &mut Report, image: &[u8], files: usize) {
     for place in 0..files {
         if place > 0 {
-            text.push(' ')?;
+            into.push(' ');
         }
-        push_length(&mut text, length_told(image, place.saturating_add(2)))?;
+        match length_told(image, place.saturating_add(2)) {
+            Some(length) => into.value(&length),
+            None => into.push('?'),
+        }
     }
-    Ok(text)
 }
 
-// The volume of sixteen files whose entries tell 99 as the length of their records.
-fn sixteen_untold(alloc: Global) -> Result<Disk, AllocError> {
-    let mut image = image_named(alloc, "sixteen files")?;
+// Has the entries of sixteen files tell 99 as the length of their records.
+fn put_lengths(image: &mut [u8]) {
     for number in 2..18_usize {
         let block = [4, 7, 8][number / 8];
-        put_number(image.as_mut_slice(), block, number % 8 * 64 + 32, 99);
+        put_number(image, block, number % 8 * 64 + 32, 99);
     }
-    Disk::logged(alloc, &image)
+}
+
+// The state of what opens in an image.
+fn opened<R: Abort>(rt: &R, alloc: Global, image: &[u8]) -> Report {
+    let mut state = Report::new(alloc);
+    push_opened(&mut state, rt, alloc, image, BlockSize::new(512));
+    state
 }
 
 // What a crash leaves after so many events: all that was written, or no more than what was synced.
-fn left(alloc: Global, world: &Disk, at: usize, all: bool) -> Result<String, AllocError> {
-    opened(alloc, &world.crash(alloc, at, all)?, BlockSize::new(512))
+fn left<R: Abort>(rt: &R, alloc: Global, world: &Disk, at: usize, all: bool) -> Report {
+    let image = world.crash(alloc, at, all).expect(rt, "memory");
+    opened(rt, alloc, &image)
 }
 
 // The first crash that leaves another volume than it should, if there is one.
-fn wrong_crash(
+fn wrong_crash<R: Abort>(
+    rt: &R,
     alloc: Global,
     world: &Disk,
     old: &str,
     new: &str,
-) -> Result<Option<(usize, bool)>, AllocError> {
+) -> Option<(usize, bool)> {
     let count = world.events().len();
     for at in 0..count.saturating_add(1) {
         for all in [false, true] {
             let is_new = at == count || all && at.saturating_add(1) == count;
             let wanted = if is_new { new } else { old };
-            if left(alloc, world, at, all)?.as_str() != wanted {
-                return Ok(Some((at, all)));
+            if left(rt, alloc, world, at, all).text() != wanted {
+                return Some((at, all));
             }
         }
     }
-    Ok(None)
+    None
 }
 
-// Whether each crash leaves the old volume or the new one.
-fn crashes(alloc: Global, world: &Disk) -> Result<String, AllocError> {
-    let old = left(alloc, world, 0, true)?;
-    let new = opened(alloc, &world.image, BlockSize::new(512))?;
-    told_crashes(alloc, world, old.as_str(), new.as_str())
-}
-
-// The same, of volumes in these states.
-fn told_crashes(alloc: Global, world: &Disk, old: &str, new: &str) -> Result<String, AllocError> {
+// Adds whether each crash leaves the old volume or the new one, where these are in other states.
+fn push_wrong<R: Abort>(
+    into: &mut Report,
+    rt: &R,
+    alloc: Global,
+    world: &Disk,
+    old: &str,
+    new: &str,
+) {
     if old == new || !old.starts_with("TEST01") || !new.starts_with("TEST01") {
-        return format!(in alloc; "{old} became {new}");
+        return write!(into, "{old} became {new}");
     }
-    match wrong_crash(alloc, world, old, new)? {
-        None => String::from_str(alloc, "the old volume or the new"),
-        Some(moment) => told(alloc, &moment),
+    match wrong_crash(rt, alloc, world, old, new) {
+        None => into.push_str("the old volume or the new"),
+        Some(moment) => into.value(&moment),
     }
+}
+
+// The same of what stood before and what stands now.
+fn push_crashes<R: Abort>(into: &mut Report, rt: &R, alloc: Global, world: &Disk) {
+    let old = left(rt, alloc, world, 0, true);
+    let new = opened(rt, alloc, &world.image);
+    push_wrong(into, rt, alloc, world, old.text(), new.text())
 }
 
 const TEXT: &[u8] = &[0xC1; 512];
@@ -314,16 +317,25 @@ const LONG: &[u8] = &[0xC1; 509];
 
 const SHORT: &[u8] = &[0xC1, 0xC2, 0xC3];
 
-// The volume of a case before the last change.
-fn disk_of(alloc: Global, case: &str) -> Result<Disk, AllocError> {
+// The image of a case before the last change.
+fn image_of(alloc: Global, case: &str) -> Result<Vec<u8>, AllocError> {
     match case {
-        "tree" => empty_disk(alloc, 200),
-        "fill" => Disk::logged(alloc, &image_named(alloc, "one file")?),
-        "shrink" => Disk::logged(alloc, &image_named(alloc, "long directory")?),
-        "move" => Disk::logged(alloc, &image_named(alloc, "long directory on 20")?),
-        "told" => sixteen_untold(alloc),
-        _ => empty_disk(alloc, 20),
+        "tree" => empty_image(alloc, 200),
+        "fill" => image_named(alloc, "one file"),
+        "shrink" => image_named(alloc, "long directory"),
+        "move" => image_named(alloc, "long directory on 20"),
+        "told" => image_named(alloc, "sixteen files"),
+        _ => empty_image(alloc, 20),
     }
+}
+
+// Its disk.
+fn disk_of<R: Abort>(rt: &R, alloc: Global, case: &str) -> Disk {
+    let mut image = image_of(alloc, case).expect(rt, "memory");
+    if case == "told" {
+        put_lengths(image.as_mut_slice());
+    }
+    Disk::logged(alloc, &image).expect(rt, "memory")
 }
 
 // Puts A FILE with a record of 512 bytes, and then, in a world that keeps this alone, with two of them.
@@ -347,22 +359,21 @@ fn changed(alloc: Global, world: &mut Disk, case: &str) -> Option<()> {
 }
 
 // What is asked of a disk that was changed.
-fn asked(alloc: Global, world: &Disk, case: &str) -> Result<String, AllocError> {
+fn push_asked<R: Abort>(into: &mut Report, rt: &R, alloc: Global, world: &Disk, case: &str) {
     match case {
-        "tree" | "move" => written(alloc, world.events()),
-        "marks" => marks(alloc, &world.image, 9),
-        "told" => lengths_told(alloc, &world.image, 15),
-        _ => crashes(alloc, world),
+        "tree" | "move" => push_written(into, world.events()),
+        "marks" => push_marks(into, &world.image, 9),
+        "told" => push_lengths(into, &world.image, 15),
+        _ => push_crashes(into, rt, alloc, world),
     }
 }
 
-/// What a case comes to.
-pub fn answer(alloc: Global, case: &str) -> Result<String, AllocError> {
-    let mut world = disk_of(alloc, case)?;
-    let answer = match changed(alloc, &mut world, case) {
-        Some(()) => asked(alloc, &world, case),
-        None => String::from_str(alloc, "not changed"),
-    };
-    drop(world);
-    answer
+/// Tells what a case comes to.
+pub fn tell<R: Abort>(into: &mut Report, rt: &R, alloc: Global, case: &str) {
+    let mut world = disk_of(rt, alloc, case);
+    match changed(alloc, &mut world, case) {
+        Some(()) => push_asked(into, rt, alloc, &world, case),
+        None => into.push_str("not changed"),
+    }
+    drop(world)
 }

@@ -5,4 +5,4 @@ use Rattle.cms_base_tests.proofs.exec2.procedures.varying.Goals as goal
 
 pub returns-clause-valid : goal.returns-clause-valid
 unfolding is_stamp days_of_month
-returns-clause-valid c = two_are_valid _ refl refl refl refl refl (search rules)
+returns-clause-valid g c = two_are_valid _ refl refl refl refl refl (search rules)

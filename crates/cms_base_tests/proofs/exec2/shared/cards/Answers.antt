@@ -5,4 +5,4 @@ use Rattle.cms_base_tests.proofs.exec2.shared.cards.Goals as goal
 
 pub returns-clause-valid : goal.returns-clause-valid
 unfolding is_stamp days_of_month
-returns-clause-valid c = cards_are_valid _ refl (search rules, search rules) (search rules) (search rules) (lit≤ tt) refl
+returns-clause-valid g c = cards_are_valid _ refl (search rules, search rules) (search rules) (search rules) (lit≤ tt) refl

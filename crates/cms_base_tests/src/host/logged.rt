@@ -1,30 +1,39 @@
-// A system of the tests, which writes down what it is asked for, tells what it did, and fails where it is told to.
+// A system that writes down what it is asked for, tells what it did, and fails where it is told to.
 ghost use Rattle.std.specs.Prelude.{◌≡◌, ◌++◌, [], ◌∷◌, Some, IfOk, OnOk, OnErr};
 ghost use Rattle.cms_host.specs.Deeds.{printing};
 
-use crate::system::{Deed, Lock, Sharing, System, Warning};
+use cms_host::{Deed, Lock, Sharing, System, Warning};
 use cms_journal::Bytes;
 use cms_world::Access;
 use std::alloc::{AllocError, Global};
+use std::cell::Cell;
 use std::io;
 use std::io::ErrorKind;
+
+/// What such a system has room to print, how locks are asked for, what fails from now on, and which of the first file's eight blocks can't be
+/// read, each by its bit.
+#[derive(Clone, Copy)]
+pub struct Plan {
+    pub room: usize,
+    pub lock: Lock,
+    pub sync_fails: bool,
+    pub folder_fails: bool,
+    pub write_fails: bool,
+    pub bad: u8,
+}
 
 /// A system without files, which tells what it did, and writes down each call as a character: `O` opens an image and `L` asks for
 /// its lock, `S` gives it its size, `Y` syncs it and `D` its folder, `G` reads a block and `W` writes one, `R` reads the script and
 /// `!` warns. What is printed stands there itself, three bytes at a time at most. Files 0 and 1 have eight blocks, each of which begins
-/// with a letter, that of what was written there last; where it is a hyphen the block can't be read.
+/// with a letter, that of what was written there last.
 #[derive(Drop)]
-pub(crate) struct Logged {
+pub struct Logged {
     alloc: Global,
     pub deeds: Vec<Deed>,
-    pub log: String,
-    pub room: usize,
-    pub lock: Lock,
-    pub blocks: [u8; 16],
-    pub files: usize,
-    pub sync_fails: bool,
-    pub folder_fails: bool,
-    pub write_fails: bool,
+    pub log: Vec<u8>,
+    pub plan: Cell<Plan>,
+    blocks: [u8; 16],
+    files: usize,
 }
 
 fn printed(alloc: Global, from: &[u8]) -> Result<Vec<Deed>, AllocError>
@@ -34,22 +43,26 @@ fn printed(alloc: Global, from: &[u8]) -> Result<Vec<Deed>, AllocError>
 }
 
 impl Logged {
-    pub(crate) fn new(alloc: Global) -> Logged {
+    /// A system that has no room to print, and of which nothing fails.
+    pub fn new(alloc: Global) -> Logged {
         Logged {
             alloc,
             deeds: Vec::new(alloc),
-            log: String::new(alloc),
-            room: 0,
-            lock: Lock::Taken,
+            log: Vec::new(alloc),
+            plan: Cell::new(Plan {
+                room: 0,
+                lock: Lock::Taken,
+                sync_fails: false,
+                folder_fails: false,
+                write_fails: false,
+                bad: 0,
+            }),
             blocks: *b"abcdefghstuvwxyz",
             files: 0,
-            sync_fails: false,
-            folder_fails: false,
-            write_fails: false,
         }
     }
 
-    pub(crate) fn asked(&mut self, call: char)
+    fn asked(&mut self, call: u8)
         ensures { self.new.deeds.items ≡ self.old.deeds.items }
     {
         let _ = self.log.push(call);
@@ -57,16 +70,11 @@ impl Logged {
 
     // The letter of a block, counted from 0, that can be read.
     fn letter(&self, file: usize, block: usize) -> Option<u8> {
-        if block > 7 {
+        if block > 7 || file == 0 && self.plan.get().bad >> block & 1 == 1 {
             return None;
         }
-        match self
-            .blocks
-            .get(file.saturating_mul(8).saturating_add(block))
-        {
-            Some(b'-') => None,
-            letter => letter.copied(),
-        }
+        let place = file.saturating_mul(8).saturating_add(block);
+        self.blocks.get(place).copied()
     }
 
     // Gives a block the letter of what is written there.
@@ -94,7 +102,7 @@ impl System for Logged {
     ghost told = { λ l. Some l.deeds.items };
 
     fn open(&mut self, name: &str, _access: Access) -> io::Result<usize> {
-        self.asked('O');
+        self.asked(b'O');
         let file = self.files;
         self.files = self.files.saturating_add(1);
         let name = Bytes::of(self.alloc, name.as_bytes())?;
@@ -103,8 +111,8 @@ impl System for Logged {
     }
 
     fn lock(&mut self, file: usize, sharing: Sharing) -> io::Result<Lock> {
-        self.asked('L');
-        match self.lock {
+        self.asked(b'L');
+        match self.plan.get().lock {
             Lock::Taken => {
                 self.did(Deed::Locked(file, sharing))?;
                 Ok(Lock::Taken)
@@ -118,7 +126,7 @@ impl System for Logged {
     }
 
     fn set_size(&mut self, file: usize, bytes: u64) -> io::Result<()> {
-        self.asked('S');
+        self.asked(b'S');
         self.did(Deed::Sized(file, bytes))
     }
 
@@ -127,8 +135,8 @@ impl System for Logged {
     }
 
     fn sync_folder(&mut self, name: &str) -> io::Result<()> {
-        self.asked('D');
-        if self.folder_fails {
+        self.asked(b'D');
+        if self.plan.get().folder_fails {
             return Err(io::Error::from(ErrorKind::Other));
         }
         let name = Bytes::of(self.alloc, name.as_bytes())?;
@@ -136,7 +144,7 @@ impl System for Logged {
     }
 
     fn read_at(&mut self, file: usize, into: &mut [u8], place: u64) -> bool {
-        self.asked('G');
+        self.asked(b'G');
         for block in 0..into.len() / 512 {
             let Some(letter) = self.letter(file, block.saturating_add((place / 512) as usize))
             else {
@@ -148,8 +156,8 @@ impl System for Logged {
     }
 
     fn write_at(&mut self, file: usize, from: &[u8], place: u64) -> bool {
-        self.asked('W');
-        if self.write_fails {
+        self.asked(b'W');
+        if self.plan.get().write_fails {
             return false;
         }
         self.put(file, place, from);
@@ -161,29 +169,37 @@ impl System for Logged {
 
     // The first sync fails alone, as where a system drops what it couldn't write.
     fn sync(&mut self, file: usize) -> bool {
-        self.asked('Y');
-        if self.sync_fails {
-            self.sync_fails = false;
+        self.asked(b'Y');
+        let plan = self.plan.get();
+        if plan.sync_fails {
+            self.plan.set(Plan {
+                sync_fails: false,
+                ..plan
+            });
             return false;
         }
         self.did(Deed::Synced(file)).is_ok()
     }
 
     fn print(&mut self, from: &[u8]) -> Option<usize> {
-        let count = from.len().min(3).min(self.room);
+        let plan = self.plan.get();
+        let count = from.len().min(3).min(plan.room);
         if count == 0 {
             return None;
         }
         let from = &from[..count];
         let mut deeds = printed(self.alloc, from).ok()?;
         self.deeds.append(&mut deeds).ok()?;
-        self.room = self.room.saturating_sub(count);
-        let _ = self.log.push_str(str::from_utf8(from).unwrap_or("?"));
+        self.plan.set(Plan {
+            room: plan.room.saturating_sub(count),
+            ..plan
+        });
+        let _ = self.log.extend_from_slice(from);
         Some(count)
     }
 
     fn read(&mut self, _into: &mut [u8]) -> Option<usize> {
-        self.asked('R');
+        self.asked(b'R');
         self.did(Deed::ScriptRead).ok()?;
         Some(0)
     }
@@ -193,6 +209,6 @@ impl System for Logged {
     }
 
     fn warn(&mut self, _warning: Warning) {
-        self.asked('!');
+        self.asked(b'!');
     }
 }

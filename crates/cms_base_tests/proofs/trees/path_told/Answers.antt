@@ -1,6 +1,0 @@
-use Rattle.std.proofs.Common.{◌∷◌, [], arith}
-use Rattle.cms_tree.proofs.Paths.{path_takes_no_more}
-use Rattle.cms_base_tests.proofs.trees.path_told.Goals as goal
-
-pub path-requires-clause-fresh : goal.path-requires-clause-fresh
-path-requires-clause-fresh c = omega (arith, path_takes_no_more c.args.fan c.args.before c.args.count (c.args.written ∷ []))
