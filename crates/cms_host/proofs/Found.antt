@@ -1,12 +1,14 @@
 -- The units of a world of files, by their numbers.
 use Rattle.std.proofs.Common.{◌≡◌, ◌∙◌, ◌<◌, ℕ, List, [], ◌∷◌, ◌++◌, Bool, true, false, not, length, take, refl, sym, ap, subst, inr, arith}
-use Rattle.std.proofs.Common.{set, get_or-set_same}
+use Rattle.std.proofs.Common.{get_or, set, get_or-set_same}
 use Rattle.std.proofs.Math.ListN.{length-set}
 use Rattle.std.proofs.Math.Seq.{take-append_seam}
-use Rattle.std.specs.Prelude.{Option, Some, IsSomeAnd, slice_get, slice_set}
+use Rattle.std.specs.Prelude.{Option, Some, IsSomeAnd, nat_lt, slice_get, slice_set}
+use Rattle.std.proofs.lemmas.Bool.Decides.{nat_tests}
 use Rattle.std.proofs.lemmas.Option.{slice_get-get_or, get_or_from_slice_get}
 use Rattle.std.proofs.lemmas.List.{length_push, get_or_push, set-get_or}
-use Rattle.cms_host.specs.Units.{OnlyLoses}
+use Rattle.cms_host.specs.Units.{OnlyLoses, UnitDeeds}
+use Rattle.cms_host.specs.declared.system.Deed.{Deed}
 use Rattle.cms_host.specs.declared.file_unit.FileUnit.{FileUnit}
 
 -- the unit that was added last
@@ -46,3 +48,16 @@ only_loses old now k u v true same there fails is =
 only_loses old now k u v false same there fails is =
     inr (subst (λ (o : Option FileUnit). IsSomeAnd o (λ (x : FileUnit). slice_set now k v ≡ slice_set old k (record x { lost = true }))) (sym (there_too old now k u same there))
     (ap (λ (units : List FileUnit). slice_set units k v) same ∙ ap (λ (x : FileUnit). slice_set old k x) is))
+
+-- the unit that was got
+pub got_there : (xs : List FileUnit) (k : ℕ) (u : FileUnit) → true ≡ nat_lt k (length xs) → u ≡ get_or xs k u → slice_get xs k ≡ Some u
+got_there xs k u inside is = slice_get-get_or xs k u (grind (arith, nat_tests)) ∙ ap (λ (v : FileUnit). Some v) (sym is)
+
+-- what holds of it holds of the one that is found
+pub of_there : (o : Option FileUnit) (P : FileUnit → Type 0) (u : FileUnit) → o ≡ Some u → P u → IsSomeAnd o P
+of_there o P u there holds = subst (λ (x : Option FileUnit). IsSomeAnd x P) (sym there) holds
+
+-- what was done for a unit was done for it in equal lists
+pub deeds_same : (xs ys : List FileUnit) (k : ℕ) (deeds : FileUnit → List Deed) (old mid new : List ℕ) (t t1 t2 : Option (List Deed)) → ys ≡ xs → new ≡ mid → t2 ≡ t1
+    → UnitDeeds xs k deeds old mid t t1 → UnitDeeds ys k deeds old new t t2
+deeds_same xs ys k deeds old mid new t t1 t2 same out told done = rw (same, out, told) done

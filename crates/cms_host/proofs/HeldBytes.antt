@@ -7,7 +7,7 @@ use Rattle.cms_host.specs.HeldBytes.{HoldsTrue, HoldsAt, HoldsNone}
 use Rattle.cms_host.specs.declared.read_ahead.Place.{Place}
 use Rattle.cms_host.specs.declared.read_ahead.ReadAhead.{ReadAhead}
 
-has_none : (all : Option (List ℕ)) (place : ℕ) (bytes : List ℕ) → bytes ≡ [] → HasBytes all place bytes
+pub has_none : (all : Option (List ℕ)) (place : ℕ) (bytes : List ℕ) → bytes ≡ [] → HasBytes all place bytes
 has_none None place bytes none = tt
 has_none (Some all) place bytes none = none ∙ ap (λ (xs : List ℕ). take (length xs) (drop place all)) (sym none)
 

@@ -1,7 +1,7 @@
 -- What is said of a result where a `?` leaves, and of calls on units alone.
-use Rattle.std.proofs.Common.{◌≡◌, ◌≤◌, ℕ, List, Result, Ok, Err, refl, sym, ◌∙◌, subst, arith}
+use Rattle.std.proofs.Common.{◌≡◌, ◌≤◌, ℕ, Bool, List, Result, Ok, Err, refl, sym, ◌∙◌, subst, arith}
 use Rattle.std.specs.Prelude.{⊤}
-use Rattle.std.specs.Result.{IfErr, IfOk, IsErrAnd, OnErr}
+use Rattle.std.specs.Result.{IfErr, IfOk, IsErrAnd, OnErr, OnOk}
 use Rattle.std.proofs.lemmas.Result.{IfErr-weaker}
 use Rattle.cms_journal.specs.Causes.{Rose}
 use Rattle.cms_journal.specs.declared.event.Failed.{Failed}
@@ -12,6 +12,8 @@ use Rattle.cms_tree.specs.declared.types.TreeFault.{TreeFault}
 use Rattle.cms_tree.specs.declared.types.TreeFault.TheVariants.{Device, Memory, Pointer}
 use Rattle.cms_tree.specs.declared.types.TreeAt.{TreeAt}
 use Rattle.cms_tree.specs.declared.types.Walked.{Walked}
+use Rattle.cms_tree.specs.declared.read.MetBlocks.{MetBlocks}
+use Rattle.cms_tree.specs.Parts.{IsRefusal, JoinsLeaf, Reading}
 use Rattle.cms_tree.specs.Walks.{Appends, Reads}
 use Rattle.cms_model.specs.Trees.{Image}
 
@@ -142,3 +144,21 @@ appends_at_err image at p p' l l' (Err e) why h reads = subst (λ (f : TreeFault
     go Device r = tt
     go Memory r = tt
     go (Pointer holder value) r = r
+
+-- ---- a block that was met isn't noted, for there is no memory
+
+pub none_taken : {T : Type 0} (P : Type 0) (r : Result T TreeFault) → IsErrAnd r (λ e. e ≡ Memory) → OnOk r P
+none_taken P (Ok x) h = absurd h
+none_taken P (Err e) h = tt
+
+pub not_device : {T : Type 0} (r : Result T TreeFault) → IsErrAnd r (λ e. e ≡ Memory) → r ≡ Err Device → ⊥
+not_device (Ok x) h is = absurd h
+not_device (Err e) h is = cc
+
+pub leaf_at_err : (old new : MetBlocks) (r : Result ⊤ TreeFault) (read : Reading) → IsErrAnd r (λ e. e ≡ Memory) → JoinsLeaf old new r read
+leaf_at_err old new (Ok x) read h = absurd h
+leaf_at_err old new (Err e) read h = rw h tt
+
+pub refused_at_err : {T : Type 0} (r : Result T TreeFault) (holder root : ℕ) (allowed : Bool) → IsErrAnd r (λ e. e ≡ Memory) → IfErr r (λ fault. IsRefusal fault holder root allowed)
+refused_at_err (Ok x) holder root allowed h = absurd h
+refused_at_err (Err e) holder root allowed h = rw h tt

@@ -1,5 +1,6 @@
 pub mod Exits
 pub mod Sums
+pub mod WalkSteps
 pub mod Blocks
 pub mod Rest
 pub mod Within

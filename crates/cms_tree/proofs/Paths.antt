@@ -3,7 +3,7 @@ use Rattle.std.proofs.Common.{◌≡◌, inl, inr, ⊎_elim, ℕ, zero, suc, ◌
 use Rattle.std.specs.Prelude.{◌==◌, ◌&&◌, ◌||◌, nat_le, nat_lt, slice_index}
 use Rattle.std.specs.List.{concat}
 use Rattle.std.specs.List.Sorted.{IsStrictlyIncreasing}
-use Rattle.std.proofs.lemmas.List.{get_or_append_left, get_or_at, drop_more}
+use Rattle.std.proofs.lemmas.List.{get_or_append_left, get_or_at, get_or-drop, drop_more, take_rest}
 use Rattle.std.proofs.lemmas.Bool.{cases_lt, or_from, eq-eqb, ne_eqb, le-leb, lt-ltb, le-ltb, lt-leb}
 use Rattle.std.proofs.Math.Nat.{pow-zero}
 use Rattle.cms_fields.specs.Numbers.{up}
@@ -20,7 +20,7 @@ use Rattle.cms_model.proofs.SharedTrees.{within_has}
 use Rattle.cms_model.proofs.SharedTiers.{lies, lies_back, kept_parts, never_kept}
 use Rattle.cms_model.proofs.Exchanges.{to_few as fresh_to_few}
 use Rattle.cms_model.proofs.WrittenBlocks.{rest_ascends as ascends_on}
-use Rattle.cms_tree.specs.Paths.{PathIsShared, PathIsWhole, PathTakesFirst, PathTakesNoMore, PointFresh, levels_of, numbered, paths, places_on, places_to, tree_levels}
+use Rattle.cms_tree.specs.Paths.{IsRest, PathIsShared, PathIsWhole, PathTakesFirst, PathTakesNoMore, PointFresh, levels_of, numbered, paths, places_on, places_to, tree_levels}
 use Rattle.cms_tree.proofs.LevelsBuilt.{up_one}
 use Rattle.cms_tree.proofs.Own.{in_at}
 
@@ -57,6 +57,27 @@ unfolding any_within
 passes from to at xs within low =
     let here : drop at xs ≡ get_or xs at 0 ∷ drop (at + 1) xs = drop_more xs at 0 within in
     rw (here, lt-leb from (get_or xs at 0) low) refl
+
+-- the rest from the first that isn't below a number
+pub rest_is : (low at x : ℕ) (xs : List ℕ) → IsStrictlyIncreasing xs → x ≡ get_or xs at 0 → low ≤ x
+    → ((from to : ℕ) → low ≤ from → any_within from to xs ≡ any_within from to (drop at xs)) → IsRest low xs (take (length xs - at) (drop at xs))
+rest_is low at x xs ascends is high same = subst (IsRest low xs) (sym (take_rest xs at)) (record {
+  same = same;
+  ascends = ascends_drop at xs ascends;
+  first = λ some. let here : at + 0 ≡ at = omega arith in let first = get_or-drop at xs 0 0 ∙ ap (λ (i : ℕ). get_or xs i 0) here ∙ sym is in subst (λ (n : ℕ). low ≤ n) (sym first) high;
+})
+
+pub rest_is_none : (low at : ℕ) (xs : List ℕ) → length xs ≤ at → ((from to : ℕ) → low ≤ from → any_within from to xs ≡ any_within from to (drop at xs))
+    → IsRest low xs (take (length xs - length xs) (drop (length xs) xs))
+rest_is_none low at xs past same =
+    let none : drop at xs ≡ [] = drop_of_length-le xs past in
+    let none' : drop (length xs) xs ≡ [] = drop_of_length-le xs (omega arith) in
+    let rest : take (length xs - length xs) (drop (length xs) xs) ≡ [] = take_rest xs (length xs) ∙ none' in
+    subst (IsRest low xs) (sym rest) (record {
+      same = λ from to above. same from to above ∙ ap (any_within from to) none;
+      ascends = λ j inside. absurd (omega arith);
+      first = λ some. absurd (omega arith);
+    })
 
 -- the first tells
 pub first_tells : (from to : ℕ) (xs : List ℕ) → IsStrictlyIncreasing xs → (1 ≤ length xs → from ≤ get_or xs 0 0) → (any_within from to xs ≡ true → 1 ≤ length xs)

@@ -1,12 +1,13 @@
 -- The levels and the pointer blocks of a shape, counted upward.
-use Rattle.std.proofs.Common.{◌≡◌, ⊎_elim, ℕ, zero, suc, ◌+◌, ◌-◌, ◌*◌, ◌/◌, ◌%◌, ◌^◌, ◌<◌, ◌≤◌, min, refl, sym, ◌∙◌, ap, subst, arith}
+use Rattle.std.proofs.Common.{◌≡◌, ⊎_elim, ℕ, zero, suc, ◌+◌, ◌-◌, ◌*◌, ◌/◌, ◌%◌, ◌^◌, ◌<◌, ◌≤◌, min, refl, sym, ◌∙◌, ap, subst, arith, Fits, w32, w64}
 use Rattle.std.proofs.Math.Nat.{pow-zero, pow-suc, pow-le-pow_left, pow-le-pow_right, mul-le-mul_left, mul-le-mul_right, one-le-pow}
 use Rattle.std.proofs.Common.{pow-add, mul_comm}
 use Rattle.std.proofs.lemmas.Bool.{cases_lt}
 use Rattle.std.proofs.lemmas.Grind.{div_ceil_times}
 use Rattle.cms_fields.specs.Numbers.{up}
 use Rattle.cms_model.specs.Sizes.{levels, pointers_to, pointer_count}
-use Rattle.cms_model.proofs.Quotients.{up_spec, up_unique}
+use Rattle.cms_model.proofs.Quotients.{up_below, up_spec, up_unique}
+use Rattle.cms_model.proofs.SharedTiers.{lies}
 use Rattle.cms_model.proofs.Shapes.{Needs, needs_shape, shape_least, levels_needs}
 
 -- so many levels are counted: they have room, one fewer has none, and they have so many pointer blocks
@@ -126,3 +127,50 @@ reached n end all past within is = omega arith
 -- nothing is left
 pub left_none : (done left all : ℕ) → done + left ≡ all → left ≡ 0 → done ≡ all
 left_none done left all sum none = omega arith
+
+-- ---- steps over the blocks of a level
+
+pub counts_down : (n i : ℕ) → i < n → n - (i + 1) < n - i
+counts_down n i inside = omega arith
+
+pub at_most : (i n : ℕ) → i < n → i ≤ n
+at_most i n inside = omega arith
+
+pub same_most : (n : ℕ) → n ≤ n
+same_most n = omega arith
+
+pub is_most : (n m : ℕ) → n ≡ m → n ≤ m
+is_most n m is = omega arith
+
+pub less_up : (i n m : ℕ) → i < n → n ≤ m → i < m
+less_up i n m inside most = omega arith
+
+pub fewer_still : (place count : ℕ) → 1 ≤ count → count ≤ place → place - count < place
+fewer_still place count some past = omega arith
+
+-- a vector that took a block at most of each that came has room for one more
+pub has_room : (old cap len cap' nth n : ℕ) → len ≤ old + nth → nth < n → old + n ≤ cap → cap ≤ cap' → len < cap'
+has_room old cap len cap' nth n most inside room grown = omega arith
+
+pub to_most : (len old nth n : ℕ) → len ≤ old + nth → nth ≤ n → len ≤ old + n
+to_most len old nth n most inside = omega arith
+
+-- the first place of a block, and the end behind it
+pub level_room : (x j size count : ℕ) → x ≡ j → j < up count size → 1 ≤ size → size < 2 ^ 64 → count < 2 ^ 32 → x * size + size < 2 ^ 64
+level_room x zero size count is inside some small few = rw is (omega arith)
+level_room x (suc j) size count is inside some small few = let here = lies (suc j) count size some inside in rw is (go (suc j * size) size count here some small few (more j size))
+  where
+    more : (j size : ℕ) → size ≤ suc j * size
+    more j size = omega arith
+
+    go : (at size count : ℕ) → at < count → 1 ≤ size → size < 2 ^ 64 → count < 2 ^ 32 → size ≤ at → at + size < 2 ^ 64
+    go at size count here some small few less = omega arith
+
+pub level_fits : (x j size count : ℕ) → x ≡ j → j < up count size → 1 ≤ size → size < 2 ^ 64 → count < 2 ^ 32 → Fits w64 (x * size)
+level_fits x j size count is inside some small few = let room = level_room x j size count is inside some small few in omega arith
+
+pub number_fits : (first nth n : ℕ) → first + n < 2 ^ 32 → nth < n → Fits w32 (first + nth)
+number_fits first nth n few inside = omega arith
+
+pub ceil_fits : (x leaves size : ℕ) → x ≡ up leaves size → 1 ≤ size → leaves < 2 ^ 32 → Fits w32 x
+ceil_fits x leaves size is some few = let most = up_below leaves size some in omega arith

@@ -16,6 +16,7 @@ use Rattle.cms_tree.proofs.ClimbSteps.{rises_nothing, rises_no_more, rises_on, r
 use Rattle.cms_model.proofs.Members.{In-left, In-right}
 use Rattle.cms_tree.proofs.Own.{own_none, own_some, own_twice, own_grown}
 use Rattle.cms_tree.proofs.Exits.{counts_err, counts_none, counts_ok, counts_on}
+use Rattle.cms_tree.proofs.Sums.{same_most}
 use Rattle.cms_tree.proofs.climb.+rise.Goals as goal
 
 pub returns-in_default-clause-rises : goal.returns-in_default-clause-rises
@@ -236,3 +237,28 @@ returns-in-Some-2-clause-counts g t c = counts_on c.in_ok-parent.ensures.counts 
 
 pub returns-in-None-clause-counts : goal.returns-in-None-clause-counts
 returns-in-None-clause-counts g t c = counts_ok c.in_ok-parent.ensures.counts
+
+-- there is a fresh number for each block of the first level
+first_fresh : (fan count n : ℕ) (level : Level) (above levels : List Level) → levels ≡ level ∷ above → over_count fan (length levels) count ≤ n → up count fan ≤ n
+first_fresh fan count n level above levels whole room = let all : up count fan + over_count fan (length above) (up count fan) ≤ n = subst (λ (l : List Level). over_count fan (length l) count ≤ n) whole room in omega arith
+
+pub lift-requires-clause-fresh : goal.lift-requires-clause-fresh
+lift-requires-clause-fresh g t c =
+    first_fresh (c.args.bsize / c.args.psize) c.args.child.now.count (length c.args.fresh.now) c.in-Some.level.now c.in-Some.above.now c.args.levels.now c.in-Some.ensures.cases.0 c.requires.fresh
+
+pub slice_bounds-higher-count : goal.slice_bounds-higher-count
+slice_bounds-higher-count g t c =
+    let a = c.args in
+    let fan = a.bsize / a.psize in
+    let p : IsParent fan a.child.now c.in-Some-2.parent = subst (λ (o : Option Child). IfSome o (IsParent fan a.child.now)) c.in-Some-2.is c.in_ok-parent.ensures.parent in
+    subst (λ (n : ℕ). n ≤ length a.fresh.now) (sym p.count) (first_fresh fan a.child.now.count (length a.fresh.now) c.in-Some.level.now c.in-Some.above.now a.levels.now c.in-Some.ensures.cases.0 c.requires.fresh)
+
+pub slice_bounds-higher-start : goal.slice_bounds-higher-start
+slice_bounds-higher-start g t c =
+    let a = c.args in
+    let fan = a.bsize / a.psize in
+    let p : IsParent fan a.child.now c.in-Some-2.parent = subst (λ (o : Option Child). IfSome o (IsParent fan a.child.now)) c.in-Some-2.is c.in_ok-parent.ensures.parent in
+    subst (λ (n : ℕ). n ≤ length a.fresh.now) (sym p.count) (first_fresh fan a.child.now.count (length a.fresh.now) c.in-Some.level.now c.in-Some.above.now a.levels.now c.in-Some.ensures.cases.0 c.requires.fresh)
+
+pub slice_bounds-higher-end : goal.slice_bounds-higher-end
+slice_bounds-higher-end g t c = same_most _

@@ -1,4 +1,4 @@
-use Rattle.std.proofs.Common.{◌≡◌, inr, ◌≤◌, ℕ, ◌/◌, ◌<◌, List, length, take, drop, get_or, true, refl, sym, ◌∙◌, ap, subst, arith}
+use Rattle.std.proofs.Common.{◌≡◌, inr, ◌≤◌, ℕ, ◌/◌, ◌<◌, List, length, take, drop, get_or, true, refl, sym, ◌∙◌, ap, subst, arith, ◌*◌, ◌^◌, Fits, w64}
 use Rattle.std.specs.Prelude.{replicate}
 use Rattle.std.proofs.lemmas.Result.{err_from_is_err_and}
 use Rattle.std.proofs.lemmas.List.Elements.{All-get_or}
@@ -10,7 +10,7 @@ use Rattle.cms_tree.specs.Tiers.{ends_group}
 use Rattle.cms_tree.proofs.ClimbBlocks.{Pointed, Stands, some_fan, stands_on, stands_whole, stands_parent, stands_next, stands_ends, may_add_front, group_within, div_mono, pointers_fit, short_block, some_pointer}
 use Rattle.cms_model.specs.Lists.{In}
 use Rattle.cms_tree.proofs.Own.{may_add_own, own_none, in_behind}
-use Rattle.cms_tree.proofs.Sums.{div_ceil_is}
+use Rattle.cms_tree.proofs.Sums.{div_ceil_is, less_up}
 use Rattle.cms_tree.proofs.Exits.{counts_none, holds_at_err, ok_at_err}
 use Rattle.cms_tree.proofs.climb.lift.Given as given
 use Rattle.cms_tree.proofs.climb.lift.Goals as goal
@@ -191,3 +191,30 @@ pub returns-clause-counts : goal.returns-clause-counts
 returns-clause-counts g c =
     let e = c.in_ok-write_block.ensures in
     record { cause = record { later = e.cause.later; failed = tt }; edges = e.edges }
+
+word_offset : (n : ℕ) → n < 2 ^ 32 → Fits w64 (n * 4)
+word_offset n fits = omega arith
+
+pub bytes-requires : goal.bytes-requires
+bytes-requires g c = tt
+
+pub from-requires : goal.from-requires
+from-requires g c = tt
+
+pub clear-requires : goal.clear-requires
+clear-requires g c = tt
+
+pub returns-then-not-ends_group-clause-parent : goal.returns-then-not-ends_group-clause-parent
+returns-then-not-ends_group-clause-parent g c = tt
+
+pub offset_bounds-fresh-nth : goal.offset_bounds-fresh-nth
+offset_bounds-fresh-nth g c = word_offset (c.args.child.now.nth / (c.bytes.result / c.from.result)) c.type_inv.nth.fits
+
+pub bounds-fresh-nth : goal.bounds-fresh-nth
+bounds-fresh-nth g c =
+    let a = c.args in
+    let fan = c.bytes.result / c.from.result in
+    let fan_is : fan ≡ a.bsize / a.psize = rw (c.bytes.ensures.value, c.from.ensures) refl in
+    let some : 1 ≤ fan = rw fan_is (some_fan a.bsize a.psize c.requires.size c.requires.psize) in
+    let enough : up a.child.now.count fan ≤ length a.fresh.now = rw fan_is c.requires.fresh in
+    less_up _ _ _ (group_within fan a.child.now.count a.child.now.nth some c.requires.within) enough

@@ -1,4 +1,4 @@
-use Rattle.std.proofs.Common.{◌≡◌, ⊎_elim, ℕ, ◌/◌, ◌%◌, ◌<◌, ◌≤◌, List, [], length, get_or, Some, true, false, div-add-mod', refl, sym, ◌∙◌, ap, subst, arith}
+use Rattle.std.proofs.Common.{◌≡◌, ⊎_elim, ℕ, ◌/◌, ◌%◌, ◌<◌, ◌≤◌, List, [], length, get_or, Some, true, false, div-add-mod', refl, sym, ◌∙◌, ap, subst, arith, ◌⊎◌}
 use Rattle.std.specs.Vec.{with_items}
 use Rattle.std.proofs.lemmas.Bool.{cases_lt}
 use Rattle.std.proofs.lemmas.List.{length-replicate, with_items_is}
@@ -14,6 +14,7 @@ use Rattle.cms_tree.proofs.BuiltTrees.{fan_wide}
 use Rattle.cms_tree.proofs.Resumes.{length-levels_of, no_levels, over_first, partly_within, resumes_none, resumes_root, resumes_part, resumes_read}
 use Rattle.cms_tree.proofs.ClimbBlocks.{pointer_fits, some_fan, some_pointer}
 use Rattle.cms_tree.proofs.Exits.{counts_none}
+use Rattle.cms_journal.specs.Journal.{IsBlockSize}
 use Rattle.cms_tree.proofs.climb.resume_level.Goals as goal
 
 pub returns-then-not-partly_above-clause-resumes : goal.returns-then-not-partly_above-clause-resumes
@@ -137,3 +138,16 @@ returns-clause-told g c = c.read_front.ensures.told
 
 pub returns-clause-counts : goal.returns-clause-counts
 returns-clause-counts g c = c.read_front.ensures.counts
+
+pointer_in_block : (bsize psize n : ℕ) → IsBlockSize bsize → (psize ≡ 4) ⊎ (psize ≡ 12) → n ≡ bsize → psize ≤ n
+pointer_in_block bsize psize n size kind is = omega arith
+
+pub bytes-requires : goal.bytes-requires
+bytes-requires g c = tt
+
+pub from-requires : goal.from-requires
+from-requires g c = tt
+
+pub point_root-requires-clause-room : goal.point_root-requires-clause-room
+point_root-requires-clause-room g c =
+    pointer_in_block c.args.bsize c.args.psize _ c.requires.size c.requires.psize (ap (λ (l : List ℕ). length l) c.requires.clear.0 ∙ length-replicate c.args.bsize 0)

@@ -1,4 +1,4 @@
-use Rattle.std.proofs.Common.{◌++◌, ◌∙◌, ℕ, List, ap, refl}
+use Rattle.std.proofs.Common.{◌++◌, ◌∙◌, ℕ, List, ap, refl, ◌≡◌, ◌+◌, ◌<◌, ◌≤◌, length, vec_len, arith, length-append}
 use Rattle.cms_tree.proofs.Exits.{appends_at_err, holds_at_err, memory_only, ok_at_err, plain_at_err, reads_at_err, reads_at_ok}
 use Rattle.cms_tree.specs.declared.types.TreeFault.TheVariants.{Memory}
 use Rattle.cms_tree.specs.Walks.{image_at}
@@ -129,3 +129,21 @@ returns-clause-err g c = tt
 
 pub returns-clause-reads : goal.returns-clause-reads
 returns-clause-reads g c = reads_at_ok _ c.in_ok-walked.ensures.reads
+
+-- what was reserved is enough
+no_more_room : (len cap add n m : ℕ) → cap < len + n → len + add ≤ cap → add ≡ m → n ≡ m → ⊥
+no_more_room len cap add n m full room is same = omega arith
+
+length_both : (new a b old more : List ℕ) (n : ℕ) → new ≡ a ++ b → a ≡ old → b ≡ more → length more ≡ n → length new ≡ length old + n
+length_both new a b old more n is first last long = ap (λ (l : List ℕ). length l) (is ∙ ap (λ (l : List ℕ). l ++ b) first ∙ ap (λ (l : List ℕ). old ++ l) last) ∙ length-append old more ∙ ap (λ (k : ℕ). length old + k) long
+
+pub returns-in_err-extend_from_slice-2-clause-err : goal.returns-in_err-extend_from_slice-2-clause-err
+returns-in_err-extend_from_slice-2-clause-err g c =
+    absurd (no_more_room _ _ c.len.result (length c.deref-2.result.now) _ c.in_err-extend_from_slice-2.ensures.full c.in_ok-reserve.ensures.ok c.len.ensures c.deref-2.ensures.len)
+
+pub returns-clause-count : goal.returns-clause-count
+returns-clause-count g c = c.in_ok-extend_from_slice.ensures.len ∙ ap (λ (n : ℕ). vec_len c.args.leaves.now + n) (c.deref.ensures.len ∙ c.in_ok-walked.ensures.count)
+
+pub returns-clause-pointers : goal.returns-clause-pointers
+returns-clause-pointers g c =
+    length_both c.extend_from_slice-2.new.self.items c.reserve.new.self.items c.deref-2.result.now c.args.pointers.now.items c.in_ok-walked.walked.pointers.items _ c.in_ok-extend_from_slice-2.ensures.items c.in_ok-reserve.ensures.items c.deref-2.ensures.value c.in_ok-walked.ensures.pointers

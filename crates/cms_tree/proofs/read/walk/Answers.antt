@@ -1,4 +1,4 @@
-use Rattle.std.proofs.Common.{◌≡◌, ℕ, zero, suc, ◌/◌, ◌≤◌, inr, List, [], length, None, Ok, refl, sym, ◌∙◌, subst, ap, arith}
+use Rattle.std.proofs.Common.{◌≡◌, ℕ, zero, suc, ◌/◌, ◌≤◌, inr, List, [], length, None, Ok, refl, sym, ◌∙◌, subst, ap, arith, ◌+◌, Err}
 use Rattle.std.specs.Prelude.{replicate}
 use Rattle.std.specs.List.{concat}
 use Rattle.std.specs.Vec.{with_items}
@@ -6,20 +6,21 @@ use Rattle.std.proofs.lemmas.List.{length-replicate, with_items_is}
 use Rattle.cms_journal.specs.Journal.{contents_of}
 use Rattle.cms_model.specs.Lists.{In}
 use Rattle.cms_model.specs.Sizes.{levels, pointer_count}
-use Rattle.cms_model.specs.Trees.{none_met, image_of, tree, Form}
+use Rattle.cms_model.specs.Trees.{none_met, image_of, tree, Form, Image}
 use Rattle.cms_model.proofs.Shapes.{levels_needs}
 use Rattle.cms_tree.proofs.Sums.{levels_room}
 use Rattle.cms_tree.proofs.Within.{none_within}
 use Rattle.cms_tree.specs.declared.read.MetBlocks.{MetBlocks}
 use Rattle.cms_tree.specs.declared.read.Tier.{Tier}
 use Rattle.cms_tree.specs.Levels.{over_count}
-use Rattle.cms_tree.specs.Parts.{form_of, met_of, blocks_in}
-use Rattle.cms_tree.specs.Walks.{AreWithin, form_at, image_at, levels_at, nodes, nodes_at, tree_at}
+use Rattle.cms_tree.specs.Parts.{form_of, met_of, blocks_in, IsFaultOf}
+use Rattle.cms_tree.specs.Walks.{AreWithin, form_at, image_at, levels_at, nodes, nodes_at, tree_at, Reads}
 use Rattle.cms_tree.proofs.ClimbSteps.{over_all}
 use Rattle.cms_tree.proofs.Rest.{length-blocks_in, more_sum, walk_read}
-use Rattle.cms_tree.specs.declared.types.TreeFault.TheVariants.{Device}
-use Rattle.cms_tree.specs.declared.types.TreeFault.TheVariants.{Memory}
+use Rattle.cms_tree.specs.declared.types.TreeFault.TheVariants.{Device, Memory, Pointer}
 use Rattle.cms_tree.proofs.Exits.{tree_at_err, err_at_err, memory_only, ok_at_err, plain_at_err, reads_at_err, reads_at_ok, reads_none}
+use Rattle.cms_tree.specs.declared.types.TreeFault.{TreeFault}
+use Rattle.cms_tree.specs.declared.types.TreeAt.{TreeAt}
 use Rattle.cms_tree.proofs.read.walk.Given as given
 use Rattle.cms_tree.proofs.read.walk.Goals as goal
 use Rattle.cms_tree.proofs.read.walk.Goals.{After-drop-tiers-2}
@@ -171,3 +172,30 @@ walk_from-requires-clause-stride g c = c.layout_of-layout.ensures.stride.0
 
 pub walk_from-requires-clause-fits : goal.walk_from-requires-clause-fits
 walk_from-requires-clause-fits g c = c.layout_of-layout.ensures.stride.1
+
+-- the fault of the root's part is that of the walk
+whole_fault : (e : TreeFault) (image : Image) (at : TreeAt) → IsFaultOf e (tree_at image at) → Reads image at (Err e)
+whole_fault Device image at is = tt
+whole_fault Memory image at is = tt
+whole_fault (Pointer holder value) image at is = is
+
+from_none : (n old count : ℕ) → n ≡ old + count → old ≡ 0 → n ≡ count
+from_none n old count is none = omega arith
+
+pub returns-in_err-walk_from-clause-read : goal.returns-in_err-walk_from-clause-read
+returns-in_err-walk_from-clause-read g c = λ j told.
+    let at = c.args.at.now in
+    let e = c.in_err-walk_from.field-0.0 in
+    let k = c.shape-levels.result.levels in
+    let image = image_of (contents_of j c.layout_of-layout.result.unit) in
+    let levels_are : k ≡ levels_at at = c.shape-levels.ensures.levels ∙ ap (λ (fan : ℕ). levels fan at.count) (ap (λ (f : Form). f.fan) c.layout_of-layout.ensures.form) in
+    tree_at_err (image_at j at) at c.from_residual-in_err-walk_from.result e c.from_residual-in_err-walk_from.ensures.1 (whole_fault e (image_at j at) at
+    (subst (λ (n : ℕ). IsFaultOf e (tree_at (image_of (contents_of j n)) at)) c.layout_of-layout.ensures.unit
+    (subst (λ (n : ℕ). IsFaultOf e (tree (form_at at) image n at.first at.holder at.root at.count)) levels_are
+    (subst (λ (f : Form). IsFaultOf e (tree f image k at.first at.holder at.root at.count)) c.layout_of-layout.ensures.form (c.in_err-walk_from.ensures.read j told)))))
+
+pub returns-clause-count : goal.returns-clause-count
+returns-clause-count g c = from_none _ _ _ c.in_ok-walk_from.ensures.count c.new-2.ensures.len
+
+pub walk_from-requires-clause-blocks : goal.walk_from-requires-clause-blocks
+walk_from-requires-clause-blocks g c = λ j told. rw (c.layout_of-layout.ensures.unit, ap (λ (f : Form). f.last) c.layout_of-layout.ensures.form, c.layout_of-layout.ensures.bsize) (c.requires.blocks j told)

@@ -3,7 +3,7 @@ use Rattle.std.proofs.Math.Nat.{pow-zero, one-le-pow}
 use Rattle.cms_fields.specs.Numbers.{up}
 use Rattle.cms_model.specs.Sizes.{levels, levels_from, pointer_count, pointers_to}
 use Rattle.cms_tree.specs.Paths.{places_to}
-use Rattle.cms_tree.proofs.Sums.{pointers_small, power_next}
+use Rattle.cms_tree.proofs.Sums.{pointers_small, power_next, counts_down}
 use Rattle.cms_tree.proofs.Paths.{counts_left, places_up, power_low, product_fits}
 use Rattle.cms_tree.proofs.shared_level.fresh_places.Goals as goal
 
@@ -113,3 +113,24 @@ loop-height-preserved c =
       len = omega (arith, l.invariant.len, c.place_level.ensures.len, c.blocks-first.ensures);
       capacity = omega (arith, l.invariant.capacity, c.place_level.ensures.capacity);
     }
+
+pub shape-old_levels-requires-clause-some : goal.shape-old_levels-requires-clause-some
+shape-old_levels-requires-clause-some c = c.requires.some_before
+
+pub shape-new_levels-requires-clause-some : goal.shape-new_levels-requires-clause-some
+shape-new_levels-requires-clause-some c = c.requires.some
+
+pub shape-old_levels-requires-clause-wide : goal.shape-old_levels-requires-clause-wide
+shape-old_levels-requires-clause-wide c = c.requires.wide
+
+pub shape-new_levels-requires-clause-wide : goal.shape-new_levels-requires-clause-wide
+shape-new_levels-requires-clause-wide c = c.requires.wide
+
+pub place_level-requires-clause-ascends : goal.place_level-requires-clause-ascends
+place_level-requires-clause-ascends c = c.requires.ascends
+
+pub loop-height-smaller : goal.loop-height-smaller
+loop-height-smaller c = counts_down _ c.loop-height.height c.loop-height-test.true
+
+pub returns-clause-capacity : goal.returns-clause-capacity
+returns-clause-capacity c = c.loop-height.invariant.capacity

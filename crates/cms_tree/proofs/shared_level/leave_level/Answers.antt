@@ -2,6 +2,7 @@ use Rattle.std.proofs.Common.{◌≡◌, ◌+◌, ◌*◌, [], min, drop, drop_o
 use Rattle.cms_model.specs.SharedTrees.{is_kept}
 use Rattle.cms_model.specs.SharedTimes.{without}
 use Rattle.cms_tree.proofs.Paths.{kept_by_rest, without_next, clash}
+use Rattle.cms_tree.proofs.Sums.{counts_down, has_room, level_fits, level_room, less_up, to_most}
 use Rattle.cms_tree.proofs.shared_level.leave_level.Goals as goal
 use Rattle.cms_tree.proofs.shared_level.leave_level.Goals.{then-not-is_kept, else-not-is_kept}
 
@@ -59,3 +60,27 @@ is_kept-requires-clause-first c = c.rest_from-rest.ensures.first
 
 pub returns-clause-capacity : goal.returns-clause-capacity
 returns-clause-capacity c = c.loop-nth.invariant.capacity
+
+pub bounds-tier-nth : goal.bounds-tier-nth
+bounds-tier-nth c = c.loop-nth-test.true
+
+pub overflow_mul-nth : goal.overflow_mul-nth
+overflow_mul-nth c =
+    let t = c.args.level.now in
+    level_fits c.loop-nth.nth c.loop-nth.nth t.size t.before refl (less_up _ _ _ c.loop-nth-test.true c.requires.tier) c.requires.some (omega arith) (omega arith)
+
+pub is_kept-requires-clause-room : goal.is_kept-requires-clause-room
+is_kept-requires-clause-room c =
+    let t = c.args.level.now in
+    level_room c.loop-nth.nth c.loop-nth.nth t.size t.before refl (less_up _ _ _ c.loop-nth-test.true c.requires.tier) c.requires.some (omega arith) (omega arith)
+
+pub unwrap-requires : goal.unwrap-requires
+unwrap-requires c =
+    let l = c.loop-nth in
+    c.push.ensures.succeeds (has_room _ _ _ _ l.nth _ l.invariant.len c.loop-nth-test.true c.requires.room l.invariant.capacity)
+
+pub loop-nth-smaller : goal.loop-nth-smaller
+loop-nth-smaller c = counts_down _ c.loop-nth.nth c.loop-nth-test.true
+
+pub returns-clause-len : goal.returns-clause-len
+returns-clause-len c = to_most _ _ _ _ c.loop-nth.invariant.len c.loop-nth.auto.nth-end

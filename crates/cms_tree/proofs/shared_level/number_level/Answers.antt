@@ -1,10 +1,10 @@
-use Rattle.std.proofs.Common.{◌≡◌, ◌+◌, ◌*◌, min, ℕ, append-nil, refl, sym, ◌∙◌, ap, arith, ◌++◌, ◌≤◌, length, subst, slice_index, vec_len}
+use Rattle.std.proofs.Common.{◌≡◌, ◌+◌, ◌*◌, min, ℕ, append-nil, refl, sym, ◌∙◌, ap, arith, ◌++◌, ◌≤◌, length, subst, slice_index, vec_len, ◌<◌}
 use Rattle.cms_fields.specs.Numbers.{up}
 use Rattle.cms_model.specs.SharedTrees.{is_kept, fresh_on}
 use Rattle.cms_model.proofs.Exchanges.{fresh_few}
 use Rattle.cms_tree.specs.Paths.{numbered}
 use Rattle.cms_tree.proofs.Paths.{clash, fresh_next, fresh_room, kept_by_rest, kept_inside, numbered_next}
-use Rattle.cms_tree.proofs.Sums.{reached}
+use Rattle.cms_tree.proofs.Sums.{reached, counts_down, has_room, level_fits, level_room, is_most}
 use Rattle.cms_tree.proofs.shared_level.number_level.Goals as goal
 use Rattle.cms_tree.proofs.shared_level.number_level.Goals.{then-not-kept, else-not-kept}
 
@@ -107,3 +107,22 @@ returns-clause-len c =
 
 pub returns-clause-capacity : goal.returns-clause-capacity
 returns-clause-capacity c = c.loop-nth.invariant.capacity
+
+pub overflow_mul-from : goal.overflow_mul-from
+overflow_mul-from c =
+    let t = c.args.level.now in
+    level_fits c.from.result c.loop-nth.nth t.size t.count c.from.ensures (subst (λ (n : ℕ). c.loop-nth.nth < n) c.blocks-nth-end.ensures c.loop-nth-test.true) c.requires.some (omega arith) (omega arith)
+
+pub is_kept-kept-requires-clause-room : goal.is_kept-kept-requires-clause-room
+is_kept-kept-requires-clause-room c =
+    let t = c.args.level.now in
+    level_room c.from-in-loop-nth.result c.loop-nth.nth t.size t.count c.from-in-loop-nth.ensures (subst (λ (n : ℕ). c.loop-nth.nth < n) c.blocks-nth-end.ensures c.loop-nth-test.true) c.requires.some (omega arith) (omega arith)
+
+pub unwrap-requires : goal.unwrap-requires
+unwrap-requires c =
+    let l = c.loop-nth in
+    let t = c.args.level.now in
+    c.push.ensures.succeeds (has_room _ _ _ _ l.nth (up t.count t.size) (is_most _ _ l.invariant.len) (subst (λ (n : ℕ). l.nth < n) c.blocks-nth-end.ensures c.loop-nth-test.true) c.requires.room l.invariant.capacity)
+
+pub loop-nth-smaller : goal.loop-nth-smaller
+loop-nth-smaller c = counts_down _ c.loop-nth.nth c.loop-nth-test.true

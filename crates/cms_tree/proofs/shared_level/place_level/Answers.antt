@@ -1,9 +1,9 @@
-use Rattle.std.proofs.Common.{◌≡◌, ◌+◌, ◌*◌, min, ℕ, append-nil, refl, sym, ◌∙◌, ap, arith, ◌≤◌, ◌++◌, length, subst, slice_index}
+use Rattle.std.proofs.Common.{◌≡◌, ◌+◌, ◌*◌, min, ℕ, append-nil, refl, sym, ◌∙◌, ap, arith, ◌≤◌, ◌++◌, length, subst, slice_index, vec_len, ◌<◌}
 use Rattle.cms_model.specs.SharedTrees.{is_kept}
 use Rattle.cms_tree.specs.Paths.{places_on}
 use Rattle.cms_tree.proofs.Paths.{clash, kept_by_rest, places_next}
 use Rattle.cms_fields.specs.Numbers.{up}
-use Rattle.cms_tree.proofs.Sums.{reached}
+use Rattle.cms_tree.proofs.Sums.{reached, counts_down, has_room, level_fits, level_room, number_fits}
 use Rattle.cms_tree.proofs.shared_level.place_level.Goals as goal
 use Rattle.cms_tree.proofs.shared_level.place_level.Goals.{then-not-is_kept, else-not-is_kept}
 
@@ -73,3 +73,32 @@ returns-clause-appended c =
 
 pub returns-clause-capacity : goal.returns-clause-capacity
 returns-clause-capacity c = c.loop-nth.invariant.capacity
+
+pub overflow_mul-from : goal.overflow_mul-from
+overflow_mul-from c =
+    let t = c.args.level.now in
+    level_fits c.from.result c.loop-nth.nth t.size t.count c.from.ensures (subst (λ (n : ℕ). c.loop-nth.nth < n) c.blocks-nth-end.ensures c.loop-nth-test.true) c.requires.some (omega arith) (omega arith)
+
+pub is_kept-requires-clause-room : goal.is_kept-requires-clause-room
+is_kept-requires-clause-room c =
+    let t = c.args.level.now in
+    level_room c.from-in-loop-nth.result c.loop-nth.nth t.size t.count c.from-in-loop-nth.ensures (subst (λ (n : ℕ). c.loop-nth.nth < n) c.blocks-nth-end.ensures c.loop-nth-test.true) c.requires.some (omega arith) (omega arith)
+
+pub overflow_add-first : goal.overflow_add-first
+overflow_add-first c = number_fits c.args.first c.loop-nth.nth _ c.requires.few (subst (λ (n : ℕ). c.loop-nth.nth < n) c.blocks-nth-end.ensures c.loop-nth-test.true)
+
+pub unwrap-requires : goal.unwrap-requires
+unwrap-requires c =
+    let l = c.loop-nth in
+    let t = c.args.level.now in
+    c.push.ensures.succeeds (has_room _ _ _ _ l.nth (up t.count t.size) l.invariant.len (subst (λ (n : ℕ). l.nth < n) c.blocks-nth-end.ensures c.loop-nth-test.true) c.requires.room l.invariant.capacity)
+
+pub loop-nth-smaller : goal.loop-nth-smaller
+loop-nth-smaller c = counts_down _ c.loop-nth.nth c.loop-nth-test.true
+
+pub returns-clause-len : goal.returns-clause-len
+returns-clause-len c =
+    let l = c.loop-nth in
+    let t = c.args.level.now in
+    let done = reached l.nth c.blocks-nth-end.result (up t.count t.size) c.loop-nth-test.false l.auto.nth-end c.blocks-nth-end.ensures in
+    subst (λ (n : ℕ). vec_len l.into ≤ vec_len c.args.into.now + n) done l.invariant.len

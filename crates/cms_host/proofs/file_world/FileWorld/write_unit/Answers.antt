@@ -28,3 +28,18 @@ returns-in-Some-clause-failed g c =
         done = done_behind _ _ _ _ _ _ _ c.finish-printed.ensures.prints none refl more;
       })
     ]
+
+pub write-requires : goal.write-requires
+write-requires g c = c.finish-printed.new.self.held
+
+pub invariant_of-self : goal.invariant_of-self
+invariant_of-self g c = record { held = c.write.ensures.held }
+
+pub returns-in-Some-clause-units : goal.returns-in-Some-clause-units
+returns-in-Some-clause-units g c = c.finish-printed.ensures.units
+
+pub returns-in-Some-clause-faults : goal.returns-in-Some-clause-faults
+returns-in-Some-clause-faults g c = c.finish-printed.ensures.faults
+
+pub returns-in-Some-clause-edges : goal.returns-in-Some-clause-edges
+returns-in-Some-clause-edges g c = c.finish-printed.ensures.edges

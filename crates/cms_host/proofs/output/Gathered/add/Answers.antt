@@ -1,6 +1,8 @@
-use Rattle.std.proofs.Common.{List, ℕ, subst}
+use Rattle.std.proofs.Common.{List, ℕ, subst, ◌∙◌, sym, refl}
+use Rattle.std.proofs.lemmas.Bool.{false≢true}
 use Rattle.cms_host.specs.Deeds.{Prints}
 use Rattle.cms_host.proofs.Printed.{just_gathered, flushed_gathered, printed_in_the_end, prints_same}
+use Rattle.cms_host.proofs.Exits.{same_most}
 use Rattle.cms_host.proofs.output.Gathered.add.Goals as goal
 
 pub returns-then-gather-clause-taken : goal.returns-then-gather-clause-taken
@@ -32,3 +34,36 @@ returns-clause-failed g c =
 
 pub returns-clause-within : goal.returns-clause-within
 returns-clause-within g c = c.print.ensures.within
+
+pub returns-then-gather-clause-within : goal.returns-then-gather-clause-within
+returns-then-gather-clause-within g c = (c.requires, same_most _)
+
+pub returns-then-gather-2-clause-within : goal.returns-then-gather-2-clause-within
+returns-then-gather-2-clause-within g c = (c.requires, same_most _)
+
+pub returns-then-gather-clause-failed : goal.returns-then-gather-clause-failed
+returns-then-gather-clause-failed g c = λ is. absurd (false≢true (sym is))
+
+pub returns-then-gather-2-clause-failed : goal.returns-then-gather-2-clause-failed
+returns-then-gather-2-clause-failed g c = λ is. absurd (false≢true (sym is))
+
+pub returns-then-gather-clause-files : goal.returns-then-gather-clause-files
+returns-then-gather-clause-files g c = refl
+
+pub returns-then-not-flush-clause-within : goal.returns-then-not-flush-clause-within
+returns-then-not-flush-clause-within g c = tt
+
+pub returns-then-not-flush-clause-taken : goal.returns-then-not-flush-clause-taken
+returns-then-not-flush-clause-taken g c = tt
+
+pub returns-then-not-flush-clause-files : goal.returns-then-not-flush-clause-files
+returns-then-not-flush-clause-files g c = c.flush.ensures.files
+
+pub returns-then-gather-2-clause-files : goal.returns-then-gather-2-clause-files
+returns-then-gather-2-clause-files g c = c.flush.ensures.files
+
+pub print-requires : goal.print-requires
+print-requires g c = c.requires
+
+pub returns-clause-files : goal.returns-clause-files
+returns-clause-files g c = c.print.ensures.files ∙ c.flush.ensures.files

@@ -25,3 +25,9 @@ returns-clause-prints g c =
 
 pub returns-clause-all : goal.returns-clause-all
 returns-clause-all g c = (λ went. c.clear.ensures.items, λ none. refl)
+
+pub returns-then-self-len-clause-files : goal.returns-then-self-len-clause-files
+returns-then-self-len-clause-files g c = c.print_front-count.ensures.files
+
+pub returns-clause-files : goal.returns-clause-files
+returns-clause-files g c = c.print_front-count.ensures.files
