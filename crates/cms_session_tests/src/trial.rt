@@ -243,7 +243,8 @@ impl Trial {
         let Some(row) = row_for(self.faults, call as usize, lands) else {
             return write!(into, "no row of call {call}");
         };
-        if row.words[0] == UNTRIED {
+        let state = row.words[0];
+        if state == UNTRIED {
             return;
         }
         let mut world = world_named(rt, alloc, self.images, whole.script.text());
