@@ -11,8 +11,3 @@ first_and_rest (w ∷ ws) word some is =
 pub none_left : (words : List Text) → length words < 1 → words ≡ []
 none_left [] none = refl
 none_left (w ∷ ws) none = absurd (omega (arith, none))
-
-pub only_word : (words : List Text) (word : Text) → 1 ≤ length words → length words < 2 → word ≡ get_or words 0 word → words ≡ word ∷ []
-only_word [] word some one is = absurd (omega (arith, some))
-only_word (w ∷ []) word some one is = ap (λ (x : Text). x ∷ []) (sym is)
-only_word (w ∷ v ∷ ws) word some one is = absurd (omega (arith, one))

@@ -6,7 +6,7 @@ use Rattle.cms_fields.specs.Steps.{◌>>=◌}
 use Rattle.cms_text.specs.Texts.{Text}
 use Rattle.exec2_parse.specs.Expansion.{Binding}
 use Rattle.exec2_parse.specs.Kinds.{is_if}
-use Rattle.exec2_run.specs.Steps.{compared, fault_of_if, guarded, if_holds, incomplete}
+use Rattle.exec2_run.specs.Steps.{compared, guarded, if_holds, incomplete}
 use Rattle.exec2_run.specs.declared.fault.Fault.{Fault}
 
 -- none stands there
@@ -19,19 +19,13 @@ no_if b (w ∷ x ∷ y ∷ []) is = rw is refl
 no_if b (w ∷ x ∷ y ∷ z ∷ ws) is = rw is refl
 
 -- one stands there without its three words
-short_if : (b : Binding) (words : List Text) → length words < 4 → is_if words ≡ true → guarded b words ≡ incomplete b words
+pub short_if : (b : Binding) (words : List Text) → length words < 4 → is_if words ≡ true → guarded b words ≡ incomplete b words
 unfolding guarded
 short_if b [] few is = rw is refl
 short_if b (w ∷ []) few is = rw is refl
 short_if b (w ∷ x ∷ []) few is = rw is refl
 short_if b (w ∷ x ∷ y ∷ []) few is = rw is refl
 short_if b (w ∷ x ∷ y ∷ z ∷ ws) few is = absurd (omega (arith, few))
-
-pub lacks_words : (b : Binding) (words : List Text) (fault : Fault) → length words < 4 → is_if words ≡ true → fault_of_if b words ≡ Ok fault → guarded b words ≡ Err fault
-lacks_words b words fault few is told = short_if b words few is ∙ rw told refl
-
-pub fails_before : (b : Binding) (words : List Text) (why : Fault) → length words < 4 → is_if words ≡ true → fault_of_if b words ≡ Err why → guarded b words ≡ Err why
-fails_before b words why few is told = short_if b words few is ∙ rw told refl
 
 -- one stands there with them
 full_if : (b : Binding) (words : List Text) (left sign right : Text) → 4 ≤ length words → left ≡ get_or words 1 left → sign ≡ get_or words 2 sign → right ≡ get_or words 3 right → is_if words ≡ true

@@ -22,6 +22,7 @@ mod Settled
 mod Statements
 mod Sums
 mod Tails
+mod Targets
 mod Undone
 mod WordsRead
 mod WordsTaken

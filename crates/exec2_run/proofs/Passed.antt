@@ -65,6 +65,12 @@ does_part_fail defined old new (Ok x) why P same h said led = absurd h
 does_part_fail defined old new (Err e) why P same h (inl want) led = (same, inl (h ∙ want))
 does_part_fail defined old new (Err e) why P same h (inr is) led = (same, inr (led is ∙ ap Err (sym h)))
 
+-- what the last part says of its answer is said of all
+pub match_as : {A B : Type 0} (d e : Result B Fault) (r : Result A Fault) (f : A → B) → d ≡ e → MatchResult r (λ a. e ≡ Ok (f a)) (λ fault. e ≡ Err fault)
+    → MatchResult r (λ a. d ≡ Ok (f a)) (λ fault. (fault ≡ Memory) ⊎ (d ≡ Err fault))
+match_as d e (Ok a) f same h = same ∙ h
+match_as d e (Err fault) f same h = inr (same ∙ h)
+
 -- the last part answers for all
 pub answers_as : {A : Type 0} (d e r : Result A Fault) → d ≡ e → Answers e r → Answers d r
 answers_as {A} d e r same h = subst (λ (x : Result A Fault). Answers x r) (sym same) h

@@ -13,7 +13,7 @@ use Rattle.exec2_run.specs.Variables.{target}
 use Rattle.exec2_run.specs.declared.fault.Fault.{Fault}
 use Rattle.exec2_run.specs.declared.values.Operands.{Operands}
 
-here_on : (words : List Text) (i : ℕ) (word : Text) → i < length words → word ≡ get_or words i word → drop i words ≡ word ∷ drop (i + 1) words
+pub here_on : (words : List Text) (i : ℕ) (word : Text) → i < length words → word ≡ get_or words i word → drop i words ≡ word ∷ drop (i + 1) words
 here_on words i word here is = drop_more words i word here ∙ ap (λ (w : Text). w ∷ drop (i + 1) words) (sym is)
 
 -- ---- names
@@ -62,6 +62,13 @@ module _ (keeps : Bool) (b : Binding) (words : List Text) (i : ℕ) (word text :
       let rest = spec.values keeps b (drop (i + 1) words) in
       let ends : spec.values keeps b (drop i words) ≡ record { words = []; is_cut = true } = step ∙ (ap (λ (r : Result Text ExpandFault). spec.in_front keeps r rest) bad ∙ cut_front keeps why rest) in
       sym (ap (spec.behind front) ends ∙ ap (λ (ws : List Text). record { words = ws; is_cut = true }) (append-nil front)) ∙ so_far
+
+  pub kept_value : (value : Text) (new : List Text) → expanded b text ≡ Ok value
+      → ((more : Operands) → spec.behind new more ≡ spec.behind front (spec.in_front keeps (Ok value) more))
+      → spec.behind new (spec.values keeps b (drop (i + 1) words)) ≡ spec.values keeps b words
+  kept_value value new good kept =
+      let rest = spec.values keeps b (drop (i + 1) words) in
+      kept rest ∙ (sym (ap (spec.behind front) (step ∙ ap (λ (r : Result Text ExpandFault). spec.in_front keeps r rest) good)) ∙ so_far)
 
 pub all_values : (keeps : Bool) (b : Binding) (words : List Text) (i : ℕ) (front : List Text) → length words ≤ i → spec.behind front (spec.values keeps b (drop i words)) ≡ spec.values keeps b words
     → record { words = front; is_cut = false } ≡ spec.values keeps b words

@@ -1,13 +1,13 @@
 -- What &GOTO, &SKIP and a comparison of &LOOP make of their words.
 use Rattle.std.proofs.Common.{◌≡◌, ◌∙◌, ◌∷◌, [], ◌-◌, ◌<◌, ◌≤◌, ℕ, ℤ, suc, Bool, List, pos, length, take, drop, get_or, ok_or, refl, sym, ap, arith}
-use Rattle.std.specs.Prelude.{Ok, Err}
+use Rattle.std.specs.Prelude.{MatchResult, Result, Ok, Err}
 use Rattle.std.proofs.lemmas.List.{take_all}
 use Rattle.cms_text.specs.Numbers.{number_of}
 use Rattle.cms_text.specs.Texts.{Text}
 use Rattle.exec2_parse.specs.Expansion.{Binding}
 use Rattle.exec2_run.specs.Comparisons.{comparison_of}
 use Rattle.exec2_run.specs.Given.{seen}
-use Rattle.exec2_run.specs.Jumps.{gone_by, place_after, place_named, skipped, skipped_by}
+use Rattle.exec2_run.specs.Jumps.{gone, gone_by, place_after, place_named, skipped, skipped_by}
 use Rattle.exec2_run.specs.Loops.{test_in}
 use Rattle.exec2_run.specs.State.{Exec}
 use Rattle.exec2_run.specs.Values.{ended, missing, operands, whole}
@@ -36,6 +36,13 @@ module _ (s : Exec) (words : List Text) (label text : Text) (is_cut : Bool) (som
   pub goes_there : (place : ℕ) (u : Unit {0}) → Ok place ≡ place_named s text → Ok u ≡ ended (take (length words - 1) (drop 1 words)) is_cut
       → gone_by s words is_cut ≡ Ok (record s { next = place }, Next)
   goes_there place u good last = let here = ap (place_named s) (sym same) ∙ sym good in goes ∙ rw (here, sym last) refl
+
+-- what it comes to by what its words become
+pub gone_as : (s : Exec) (names : Binding) (words : List Text) (o : Operands) (ws : List Text) → names ≡ seen s → o ≡ operands names words → ws ≡ o.words
+    → gone s words ≡ gone_by s ws o.is_cut
+unfolding gone
+gone_as s names words o ws seen_is is same =
+    ap (λ (p : Operands). gone_by s p.words p.is_cut) (sym (is ∙ ap (λ (n : Binding). operands n words) seen_is)) ∙ ap (λ (l : List Text). gone_by s l o.is_cut) (sym same)
 
 -- ---- a comparison
 
@@ -82,11 +89,16 @@ module _ (s : Exec) (words : List Text) (is_cut : Bool) (none : length words < 1
   pub skips_cut : (why : Fault) → Err why ≡ whole is_cut → skipped_by s words is_cut ≡ Err why
   skips_cut why cut = alone ∙ rw (sym cut) refl
 
-  pub skips_not : (u : Unit {0}) (why : Fault) → Ok u ≡ whole is_cut → Err why ≡ place_after s (pos 1) → skipped_by s words is_cut ≡ Err why
+  skips_not : (u : Unit {0}) (why : Fault) → Ok u ≡ whole is_cut → Err why ≡ place_after s (pos 1) → skipped_by s words is_cut ≡ Err why
   skips_not u why all bad = alone ∙ rw (sym all, sym bad) refl
 
-  pub skips_one : (u : Unit {0}) (place : ℕ) → Ok u ≡ whole is_cut → Ok place ≡ place_after s (pos 1) → skipped_by s words is_cut ≡ Ok (record s { next = place }, Next)
+  skips_one : (u : Unit {0}) (place : ℕ) → Ok u ≡ whole is_cut → Ok place ≡ place_after s (pos 1) → skipped_by s words is_cut ≡ Ok (record s { next = place }, Next)
   skips_one u place all good = alone ∙ rw (sym all, sym good) refl
+
+  pub skips_by_one : (r : Result ℕ Fault) (u : Unit {0}) → Ok u ≡ whole is_cut → r ≡ place_after s (pos 1)
+      → MatchResult r (λ place. skipped_by s words is_cut ≡ Ok (record s { next = place }, Next)) (λ fault. skipped_by s words is_cut ≡ Err fault)
+  skips_by_one (Ok place) u all is = skips_one u place all is
+  skips_by_one (Err why) u all is = skips_not u why all is
 
 -- ---- &SKIP with a number
 

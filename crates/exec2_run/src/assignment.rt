@@ -1,7 +1,8 @@
 // Assignments: the value of a right side.
-ghost use Rattle.std.specs.Prelude.{◌≡◌, ◌≤◌, Err, IfOk, IfSome, MatchResult, Ok, drop, length};
+ghost use Rattle.std.specs.Prelude.{◌≡◌, ◌≤◌, ◌⊎◌, ℕ, List, IfSome, OnOk, Ok, Some, drop, length};
 ghost use Rattle.cms_text.specs.Limits.{longest_text};
 ghost use Rattle.cms_text.specs.Numbers as numbers;
+ghost use Rattle.exec2_parse.specs.Expansion.{expanded};
 ghost use Rattle.exec2_run.specs.Assignments as spec;
 ghost use Rattle.exec2_run.specs.Given.{bound};
 ghost use Rattle.exec2_run.specs.Faults.{Answers, Does};
@@ -9,13 +10,15 @@ ghost use Rattle.exec2_run.specs.Faults.{Answers, Does};
 use crate::borrowed::{borrowed, borrowed_target};
 use crate::exec::ExecState;
 use crate::given::Seen;
-use crate::values::{Operands, arguments, expanded_words, value, whole};
+use crate::values::{
+    Operands, arguments, called, expanded_words, number_value, text_value, value, whole,
+};
 use crate::variables::target;
 use crate::words::only;
 use crate::{Fault, Want};
 use cms_text::{Word, WordList, is_keyword, number};
 use exec2_funcs::{FuncFault, Function, call};
-use exec2_parse::{copied, written};
+use exec2_parse::copied;
 use std::alloc::{AllocError, Global};
 
 const PLUS: u8 = 0x4E;
@@ -79,7 +82,7 @@ fn right_side(alloc: Global, seen: &Seen<'_>, words: &[Word]) -> Result<Word, Fa
         return value(alloc, seen, word);
     }
     if let Some(total) = sum_of_two(seen, words) {
-        return Ok(written(alloc, total)?);
+        return number_value(alloc, total);
     }
     if let Some(function) = function_of(words) {
         return function_value(alloc, seen, function, behind_of(words));
@@ -96,12 +99,20 @@ fn sum_of_two(seen: &Seen<'_>, words: &[Word]) -> Option<i64>
         return None;
     };
     let sign = sign_of(sign.bytes())?;
-    let left = number(borrowed(seen, left.bytes())?)?;
-    let right = number(borrowed(seen, right.bytes())?)?;
+    let left = number_in(seen, left)?;
+    let right = number_in(seen, right)?;
     match sign.apply(left, right) {
         Ok(total) => Some(total),
         Err(_) => None,
     }
+}
+
+/// The number that a word becomes, where that is borrowed.
+fn number_in(seen: &Seen<'_>, word: &Word) -> Option<i64>
+    ensures { IfSome result (λ z. (text : List ℕ)
+        × (expanded (bound seen.now) word.now ≡ Ok text) × (numbers.number_of text ≡ Some z)) }
+{
+    number(borrowed(seen, word.bytes())?)
 }
 
 /// The function that is called: a function word stands first, and OF behind it.
@@ -140,7 +151,7 @@ fn function_value(
     ensures { Answers (spec.function_value (bound seen.now) function words.now) result }
 {
     if function == Function::Literal {
-        return Ok(call(alloc, function, &copied(alloc, words)?)?);
+        return called(alloc, function, &copied(alloc, words)?);
     }
     if !takes(function, words.len()) {
         return Err(Fault::Arity);
@@ -152,10 +163,11 @@ fn function_value(
 fn expanded_call(alloc: Global, function: Function, given: Operands) -> Result<Word, Fault>
     ensures { Answers (spec.expanded_call function given) result }
 {
-    if given.is_cut {
-        return Err(fault_before(alloc, function, given.words)?);
+    let Operands { words, is_cut } = given;
+    if is_cut {
+        return Err(fault_before(alloc, function, words));
     }
-    Ok(call(alloc, function, &given.words)?)
+    called(alloc, function, &words)
 }
 
 /// Whether a function takes so many words.
@@ -174,27 +186,27 @@ fn takes(function: Function, count: usize) -> bool
 }
 
 /// The fault of a function whose words are these and one that is too long: what is wrong with these alone comes first.
-fn fault_before(alloc: Global, function: Function, words: WordList) -> Result<Fault, Fault>
-    ensures { Answers (Ok (spec.fault_before function words)) result }
+fn fault_before(alloc: Global, function: Function, words: WordList) -> Fault
+    ensures { (result ≡ Fault.Memory) ⊎ (spec.fault_before function words ≡ result) }
 {
-    let words = probe(alloc, function, words)?;
+    let mut words = words;
+    if add_probe(alloc, function, &mut words).is_err() {
+        return Fault::Memory;
+    }
     match call(alloc, function, &words) {
-        Err(FuncFault::Memory) => Err(Fault::Memory),
-        Err(FuncFault::Arity) => Ok(Fault::TooLong),
-        Err(fault) => Ok(Fault::from(fault)),
-        Ok(_) => Ok(Fault::TooLong),
+        Ok(_) | Err(FuncFault::Arity) => Fault::TooLong,
+        Err(fault) => Fault::from(fault),
     }
 }
 
-/// The words, with a 1 behind them where they are divided or multiplied.
-fn probe(alloc: Global, function: Function, words: WordList) -> Result<WordList, AllocError>
-    ensures { IfOk result (λ probed. probed ≡ spec.probe function words) }
+/// Adds a 1 behind words that are divided or multiplied.
+fn add_probe(alloc: Global, function: Function, words: &mut WordList) -> Result<(), AllocError>
+    ensures { OnOk result (words.new ≡ spec.probe function words.old) }
 {
-    let mut words = words;
     if matches!(function, Function::Div | Function::Mult) {
-        words.push(Word::of(alloc, &[ONE])?)?;
+        return words.push(Word::of(alloc, &[ONE])?);
     }
-    Ok(words)
+    Ok(())
 }
 
 const ONE: u8 = 0xF1;
@@ -204,44 +216,38 @@ const ONE: u8 = 0xF1;
 fn plain_value(alloc: Global, operands: &Operands) -> Result<Word, Fault>
     ensures { Answers (spec.plain_value operands.now) result }
 {
-    match operands.words.as_slice() {
-        [] => {
-            whole(operands.is_cut)?;
-            Ok(Word::of(alloc, &[])?)
-        }
-        [word] if !operands.is_cut => Ok(Word::of(alloc, word.bytes())?),
-        [first, others @ ..] => {
-            let total = sum_of(first.bytes(), others, operands.is_cut)?;
-            Ok(written(alloc, total)?)
-        }
+    let [first, others @ ..] = operands.words.as_slice() else {
+        whole(operands.is_cut)?;
+        return Ok(Word::take(Vec::new(alloc)));
+    };
+    if others.is_empty() && !operands.is_cut {
+        return text_value(alloc, first.bytes());
     }
+    sum_value(alloc, first.bytes(), others, operands.is_cut)
 }
 
 /// The sum of words of which this is the first.
-fn sum_of(first: &[u8], others: &[Word], is_cut: bool) -> Result<i64, Fault>
-    ensures { MatchResult result
-        (λ total. spec.sum_value first.now others.now is_cut ≡ Ok (numbers.written total))
-        (λ fault. spec.sum_value first.now others.now is_cut ≡ Err fault) }
+fn sum_value(alloc: Global, first: &[u8], others: &[Word], is_cut: bool) -> Result<Word, Fault>
+    ensures { Answers (spec.sum_value first.now others.now is_cut) result }
 {
     let sum = added(begun(first)?, others)?;
     whole(is_cut)?;
-    let total = sum.whole()?;
-    Ok(total)
+    number_value(alloc, sum.whole()?)
 }
 
 /// A sum that begins with this word: a sign has 0 before it.
 fn begun(word: &[u8]) -> Result<Sum, Fault>
     ensures { result ≡ spec.begun word.now }
 {
-    match sign_of(word) {
-        Some(sign) => Ok(Sum {
+    if let Some(sign) = sign_of(word) {
+        return Ok(Sum {
             total: 0,
             sign: Some(sign),
-        }),
-        None => Ok(Sum {
-            total: number(word).ok_or(Fault::BadStatement)?,
-            sign: None,
-        }),
+        });
+    }
+    match number(word) {
+        Some(total) => Ok(Sum { total, sign: None }),
+        None => Err(Fault::BadStatement),
     }
 }
 
@@ -273,14 +279,20 @@ impl Sum {
         ensures { result ≡ spec.plus self word.now }
     {
         match self.sign {
-            None => Ok(Sum {
-                total: self.total,
-                sign: Some(sign_of(word).ok_or(Fault::BadStatement)?),
-            }),
-            Some(sign) => Ok(Sum {
-                total: sign.apply(self.total, number(word).ok_or(Fault::BadStatement)?)?,
-                sign: None,
-            }),
+            None => match sign_of(word) {
+                Some(sign) => Ok(Sum {
+                    total: self.total,
+                    sign: Some(sign),
+                }),
+                None => Err(Fault::BadStatement),
+            },
+            Some(sign) => match number(word) {
+                Some(number) => Ok(Sum {
+                    total: sign.apply(self.total, number)?,
+                    sign: None,
+                }),
+                None => Err(Fault::BadStatement),
+            },
         }
     }
 

@@ -1,5 +1,5 @@
 // Values that are borrowed and not copied.
-ghost use Rattle.std.specs.Prelude.{◌≡◌, ◌≤◌, ◌∷◌, length, IfSome, Ok};
+ghost use Rattle.std.specs.Prelude.{◌≡◌, ◌≢◌, ◌≤◌, ◌∷◌, ℕ, List, length, IfSome, MatchOption, Ok};
 ghost use Rattle.cms_text.specs.Limits.{longest_text};
 ghost use Rattle.exec2_parse.specs.Expansion.{Binding, expanded};
 ghost use Rattle.exec2_run.specs.Given.{bound};
@@ -44,8 +44,10 @@ fn variable_in(word: &[u8]) -> Option<&[u8]>
     Some(name)
 }
 
-fn behind_ampersand(word: &[u8]) -> Option<&[u8]>
-    ensures { IfSome result (λ rest. word.now ≡ 0x50 ∷ rest.now) }
+/// What stands behind the ampersand that a word begins with.
+pub fn behind_ampersand(word: &[u8]) -> Option<&[u8]>
+    ensures { MatchOption result ((rest : List ℕ) → word.now ≢ 0x50 ∷ rest)
+        (λ rest. word.now ≡ 0x50 ∷ rest.now) }
 {
     match word {
         [AMPERSAND, rest @ ..] => Some(rest),

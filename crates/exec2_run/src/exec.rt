@@ -355,7 +355,9 @@ impl ExecState {
         let due = self.statement_due()?;
         let before = self.place();
         self.advance(moment);
-        match self.run(due.kind(), due.words()) {
+        let done = self.run(due.kind(), due.words());
+        drop(due);
+        match done {
             Ok(want) => Ok(want),
             Err(fault) => {
                 let line = self.line;
@@ -394,7 +396,10 @@ impl ExecState {
     {
         let reading = std::mem::replace(&mut self.reading, Reading::Nothing);
         match self.take(&reading, line) {
-            Ok(()) => Ok(Want::Next),
+            Ok(()) => {
+                drop(reading);
+                Ok(Want::Next)
+            }
             Err(fault) => {
                 self.reading = reading;
                 failed(fault, self.line)
@@ -517,7 +522,7 @@ impl ExecState {
         let mut kind = kind;
         while is_if(kind) {
             let [_, left, sign, right, statement @ ..] = rest else {
-                return Err(self.fault_of_if(rest)?);
+                return Err(self.fault_of_if(rest));
             };
             if !self.compare(left, sign, right)? {
                 return Ok(nothing());
@@ -529,13 +534,15 @@ impl ExecState {
     }
 
     /// The fault of an &IF without three words behind it.
-    fn fault_of_if(&self, words: &[Word]) -> Result<Fault, Fault>
-        ensures { Answers (spec.fault_of_if (seen self.now) words.now) result }
+    fn fault_of_if(&self, words: &[Word]) -> Fault
+        ensures { (result ≡ Fault.Memory) ⊎ (spec.incomplete (seen self.now) words.now ≡ Err result) }
     {
         if let [_, left, ..] = words {
-            value(self.alloc, &self.seen(), left)?;
+            if let Err(fault) = value(self.alloc, &self.seen(), left) {
+                return fault;
+            }
         }
-        Ok(Fault::BadStatement)
+        Fault::BadStatement
     }
 
     /// Whether the comparison of an &IF holds.

@@ -103,8 +103,7 @@ impl ExecState {
             return self.place_named(label);
         }
         let operands = expanded_words(self.alloc, &self.seen(), words)?;
-        let place = self.place_in(operands.words.as_slice(), operands.is_cut)?;
-        Ok(place)
+        self.place_in(operands.words.as_slice(), operands.is_cut)
     }
 
     /// The same with the words expanded.
@@ -141,10 +140,12 @@ impl ExecState {
     {
         let [count, others @ ..] = words else {
             whole(is_cut)?;
-            let place = self.place_after(1)?;
-            return Ok(place);
+            return self.place_after(1);
         };
-        let place = self.place_after(number(count.bytes()).ok_or(Fault::NotNumber)?)?;
+        let Some(count) = number(count.bytes()) else {
+            return Err(Fault::NotNumber);
+        };
+        let place = self.place_after(count)?;
         ended(others, is_cut)?;
         Ok(place)
     }

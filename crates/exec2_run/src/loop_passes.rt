@@ -1,5 +1,5 @@
 // &LOOP, and the passes of loops.
-ghost use Rattle.std.specs.Prelude.{◌≡◌, ◌⊎◌, Ok, Err, true, drop, MatchResult};
+ghost use Rattle.std.specs.Prelude.{◌≡◌, ◌⊎◌, Ok, Err, Some, true, drop, MatchResult};
 ghost use Rattle.exec2_parse.specs.Words.{is_label};
 ghost use Rattle.exec2_run.specs.Given.{bound, seen};
 ghost use Rattle.exec2_run.specs.Faults.{Answers, Does};
@@ -80,20 +80,29 @@ impl ExecState {
                 self.next = past;
                 Ok(Want::Next)
             }
-            Some(passes) => {
-                if self.loops.len() >= MOST {
-                    return Err(Fault::TooDeep);
-                }
-                let inner = Loop {
-                    line: self.line,
-                    first: self.next,
-                    past,
-                    passes,
-                };
-                match self.loops.push(inner) {
-                    Ok(()) => Ok(Want::Next),
-                    Err(_) => Err(Fault::Memory),
-                }
+            Some(passes) => self.push_loop(past, passes),
+        }
+    }
+
+    /// Opens a loop whose first pass begins.
+    fn push_loop(&mut self, past: u32, passes: Passes) -> Result<Want, Fault>
+        ensures { Does (spec.opened_by self.old past (Some passes)) self.old self.new result }
+    {
+        if self.loops.len() >= MOST {
+            drop(passes);
+            return Err(Fault::TooDeep);
+        }
+        let inner = Loop {
+            line: self.line,
+            first: self.next,
+            past,
+            passes,
+        };
+        match self.loops.push(inner) {
+            Ok(()) => Ok(Want::Next),
+            Err(refused) => {
+                drop(refused);
+                Err(Fault::Memory)
             }
         }
     }
@@ -198,7 +207,7 @@ fn drop_first(loops: &mut Loops, count: usize)
     ensures { loops.new ≡ drop count loops.old }
 {
     for _ in 0..count {
-        loops.pop();
+        drop(loops.pop());
     }
 }
 
@@ -216,7 +225,11 @@ fn left(count: u64) -> Option<Passes>
 fn if_holds(holds: bool, passes: Passes) -> Option<Passes>
     ensures { result ≡ spec.if_holds holds passes }
 {
-    if holds { Some(passes) } else { None }
+    if holds {
+        return Some(passes);
+    }
+    drop(passes);
+    None
 }
 
 impl Loop {
@@ -275,8 +288,13 @@ fn counted_by(words: &[Word], is_cut: bool) -> Result<Passes, Fault>
         return Err(missing(is_cut));
     };
     let passes = count_of(count.bytes())?;
-    ended(others, is_cut)?;
-    Ok(passes)
+    match ended(others, is_cut) {
+        Ok(()) => Ok(passes),
+        Err(fault) => {
+            drop(passes);
+            Err(fault)
+        }
+    }
 }
 
 fn count_of(word: &[u8]) -> Result<Passes, Fault>
@@ -298,7 +316,9 @@ fn test(alloc: Global, seen: &Seen<'_>, words: &[Word]) -> Result<Test, Fault>
     let [left, sign, right, others @ ..] = words else {
         return Err(Fault::BadStatement);
     };
-    let comparison = Comparison::read(sign.bytes()).ok_or(Fault::BadStatement)?;
+    let Some(comparison) = Comparison::read(sign.bytes()) else {
+        return Err(Fault::BadStatement);
+    };
     no_words(alloc, seen, others)?;
     Ok(Test {
         left: Word::of(alloc, left.bytes())?,

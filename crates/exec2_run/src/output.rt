@@ -75,8 +75,9 @@ impl ExecState {
     fn text_line(&self, words: &[Word]) -> Result<Lines, Fault>
         ensures { Answers (spec.text_line self.now words.now) result }
     {
+        let line = text(self.alloc, &self.seen(), words)?;
         let mut lines = Lines::new(self.alloc);
-        lines.push(text(self.alloc, &self.seen(), words)?)?;
+        lines.push(line)?;
         Ok(lines)
     }
 

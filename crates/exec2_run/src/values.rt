@@ -1,14 +1,18 @@
 // What the words of a statement become.
-ghost use Rattle.std.specs.Prelude.{◌≡◌, ◌∷◌, IfOk, Ok, Err};
+ghost use Rattle.std.specs.Prelude.{◌≡◌, ◌≤◌, ◌∷◌, length, IfOk, OnOk, Ok, Err};
+ghost use Rattle.cms_text.specs.Limits.{longest_text};
+ghost use Rattle.cms_text.specs.Numbers as numbers;
+ghost use Rattle.exec2_funcs.specs.Calls as functions;
 ghost use Rattle.exec2_run.specs.Given.{bound};
-ghost use Rattle.exec2_run.specs.Faults.{Answers};
+ghost use Rattle.exec2_run.specs.Faults.{Answers, of_function, with_fault};
 ghost use Rattle.exec2_run.specs.Values as spec;
+ghost use Rattle.exec2_run.specs.declared.values.Operands.{Operands};
 
 use crate::Fault;
 use crate::given::Seen;
 use cms_text::{Line, Word, WordList};
 use exec2_funcs::{Function, call};
-use exec2_parse::{ExpandFault, expand_in};
+use exec2_parse::{ExpandFault, expand_in, written};
 use std::alloc::{AllocError, Global};
 
 /// What words become from left to right, up to the first that becomes too long.
@@ -26,6 +30,28 @@ pub fn value(alloc: Global, seen: &Seen<'_>, word: &Word) -> Result<Word, Fault>
     Ok(expand_in(alloc, word.bytes(), seen)?)
 }
 
+/// A text as a value.
+pub fn text_value(alloc: Global, text: &[u8]) -> Result<Word, Fault>
+    requires { length text.now ≤ longest_text }
+    ensures { Answers (Ok text.now) result }
+{
+    Ok(Word::of(alloc, text)?)
+}
+
+/// A number as a value.
+pub fn number_value(alloc: Global, number: i64) -> Result<Word, Fault>
+    ensures { Answers (Ok (numbers.written number)) result }
+{
+    Ok(written(alloc, number)?)
+}
+
+/// The value of a function at these words.
+pub fn called(alloc: Global, function: Function, words: &WordList) -> Result<Word, Fault>
+    ensures { Answers (with_fault of_function (functions.called function words.now)) result }
+{
+    Ok(call(alloc, function, words)?)
+}
+
 // What words become. One that becomes nothing is an empty one, or is left out.
 #[tactic(auto, unfolding(crate::specs::Values::values))]
 fn values(
@@ -40,11 +66,7 @@ fn values(
     let mut values = WordList::new(alloc);
     for word in words {
         match expand_in(alloc, word.bytes(), seen) {
-            Ok(value) => {
-                if keeps_empty || !value.bytes().is_empty() {
-                    values.push(value)?;
-                }
-            }
+            Ok(value) => keep(&mut values, value, keeps_empty)?,
             Err(ExpandFault::TooLong) => {
                 return Ok(Operands {
                     words: values,
@@ -58,6 +80,17 @@ fn values(
         words: values,
         is_cut: false,
     })
+}
+
+/// Adds a value, unless it is empty and such ones are left out.
+fn keep(values: &mut WordList, value: Word, keeps_empty: bool) -> Result<(), AllocError>
+    ensures { OnOk result ((more : Operands) → spec.behind values.new more
+        ≡ spec.behind values.old (spec.in_front keeps_empty (Ok value) more)) }
+{
+    if keeps_empty || !value.bytes().is_empty() {
+        return values.push(value);
+    }
+    Ok(())
 }
 
 /// What the words of a statement become, without those that become nothing.
@@ -132,6 +165,6 @@ pub fn text(alloc: Global, seen: &Seen<'_>, words: &[Word]) -> Result<Line, Faul
 pub fn joined(alloc: Global, words: &WordList) -> Result<Line, Fault>
     ensures { Answers (spec.joined words.now) result }
 {
-    let text = call(alloc, Function::String, words)?;
+    let text = called(alloc, Function::String, words)?;
     Ok(Line::take(text.into_bytes()))
 }

@@ -10,6 +10,7 @@ ghost use Rattle.exec2_run.specs.Faults.{Answers, Does, Leads};
 ghost use Rattle.exec2_run.specs.Given as given;
 ghost use Rattle.exec2_run.specs.Variables as spec;
 
+use crate::borrowed::behind_ampersand;
 use crate::exec::ExecState;
 use crate::given::{Seen, is_given};
 use crate::words::behind_first;
@@ -21,16 +22,13 @@ use std::alloc::{AllocError, Global};
 /// The most variables that may be set.
 const MOST: usize = 1000;
 
-/// The sign that a variable's name follows.
-const AMPERSAND: u8 = 0x50;
-
 /// The name of the variable that is written as an assignment's target: its first ampersand stands, and what follows is expanded and
 /// folded.
 #[tactic(auto, unfolding(crate::specs::Variables::target))]
 pub fn target(alloc: Global, seen: &Seen<'_>, word: &Word) -> Result<Word, Fault>
     ensures { Answers (spec.target (given.bound seen.now) word.now) result }
 {
-    let [AMPERSAND, name @ ..] = word.bytes() else {
+    let Some(name) = behind_ampersand(word.bytes()) else {
         return Err(Fault::BadStatement);
     };
     let name = expand_in(alloc, name, seen)?;

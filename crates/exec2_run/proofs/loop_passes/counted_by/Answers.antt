@@ -14,15 +14,12 @@ returns-in_err-passes c =
     equals_so (counted_by a.words.now a.is_cut) c.from_residual.result why c.from_residual.ensures.1
     (counts_not a.words.now c.count-item.result c.in-len1-up.len_at_least c.count-item.is c.bytes.result.now c.bytes.ensures.bytes a.is_cut why c.in_err-passes.ensures)
 
-pub returns-in_err-ended : goal.returns-in_err-ended
-returns-in_err-ended c =
-    let a = c.args in
-    let why = c.in_err-ended.field-0.0 in
-    equals_so (counted_by a.words.now a.is_cut) c.from_residual-in_err-ended.result why c.from_residual-in_err-ended.ensures.1
-    (counts_more a.words.now c.count-item.result c.in-len1-up.len_at_least c.count-item.is c.bytes.result.now c.bytes.ensures.bytes a.is_cut c.in_ok-passes.passes why c.in_ok-passes.ensures
-    c.in_err-ended.ensures)
-
-pub returns : goal.returns
-returns c =
+pub returns-in-Ok : goal.returns-in-Ok
+returns-in-Ok c =
     sym (counts_so c.args.words.now c.count-item.result c.in-len1-up.len_at_least c.count-item.is c.bytes.result.now c.bytes.ensures.bytes c.args.is_cut c.in_ok-passes.passes
-    c.in_ok-ended.field-0 c.in_ok-passes.ensures c.in_ok-ended.ensures)
+    tt c.in_ok-passes.ensures c.in-Ok.ensures)
+
+pub returns-in-Err : goal.returns-in-Err
+returns-in-Err c =
+    sym (counts_more c.args.words.now c.count-item.result c.in-len1-up.len_at_least c.count-item.is c.bytes.result.now c.bytes.ensures.bytes c.args.is_cut c.in_ok-passes.passes
+    c.in-Err.fault c.in_ok-passes.ensures c.in-Err.ensures)
