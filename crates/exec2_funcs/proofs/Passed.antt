@@ -20,3 +20,16 @@ fails_so defined (Err e) why h is = inr (is ∙ ap Err (sym h))
 pub memory_at_err : {A : Type 0} (r : Result A FuncFault) (P : Type 0) → IsErrAnd r (λ e. e ≡ Memory) → IfErr r (λ fault. (fault ≡ Memory) ⊎ ((fault ≡ TooLong) × P))
 memory_at_err (Ok x) P h = tt
 memory_at_err (Err e) P h = inl h
+
+-- a fault that a part of a text has, the whole text has
+pub fault_at_err : {A : Type 0} (r : Result A FuncFault) (f : FuncFault) (P Q : Type 0) → IsErrAnd r (λ e. e ≡ f) → (f ≡ Memory) ⊎ ((f ≡ TooLong) × P) → (P → Q)
+    → IfErr r (λ fault. (fault ≡ Memory) ⊎ ((fault ≡ TooLong) × Q))
+fault_at_err (Ok x) f P Q h said led = tt
+fault_at_err (Err e) f P Q h (inl want) led = inl (h ∙ want)
+fault_at_err (Err e) f P Q h (inr long) led = inr (h ∙ long.0, led long.1)
+
+pub fault_led : {A : Type 0} (r : Result A FuncFault) (P Q : Type 0) → (P → Q) → IfErr r (λ fault. (fault ≡ Memory) ⊎ ((fault ≡ TooLong) × P))
+    → IfErr r (λ fault. (fault ≡ Memory) ⊎ ((fault ≡ TooLong) × Q))
+fault_led (Ok x) P Q led h = tt
+fault_led (Err e) P Q led (inl want) = inl want
+fault_led (Err e) P Q led (inr long) = inr (long.0, led long.1)

@@ -1,15 +1,17 @@
 // What functions make of the bytes of a text.
-ghost use Rattle.std.specs.Prelude.{◌≡◌, ◌+◌, ◌≤◌, length, position, take, ◌==◌, IfOk};
+ghost use Rattle.std.specs.Prelude.{◌≡◌, ◌+◌, ◌≤◌, length, position, take, ◌==◌, Ok};
+ghost use Rattle.exec2_funcs.specs.Calls.{Answers};
 ghost use Rattle.exec2_funcs.specs.Values as spec;
 ghost use Rattle.cms_text.specs.Limits.{longest_text};
 
+use crate::FuncFault;
 use cms_text::{BLANK, Word};
-use std::alloc::{AllocError, Global};
+use std::alloc::Global;
 
 /// The first bytes of a text, filled with blanks on the right.
-pub fn first_filled(alloc: Global, text: &[u8], count: usize) -> Result<Word, AllocError>
+pub fn first_filled(alloc: Global, text: &[u8], count: usize) -> Result<Word, FuncFault>
     requires { count ≤ longest_text }
-    ensures { IfOk result (λ word. word ≡ spec.first_filled count text.now) }
+    ensures { Answers (Ok (spec.first_filled count text.now)) result }
 {
     let mut bytes = text.to_vec(alloc)?;
     bytes.resize(count, BLANK)?;
@@ -17,9 +19,9 @@ pub fn first_filled(alloc: Global, text: &[u8], count: usize) -> Result<Word, Al
 }
 
 /// The last bytes of a text, filled with blanks on the left.
-pub fn last_filled(alloc: Global, text: &[u8], count: usize) -> Result<Word, AllocError>
+pub fn last_filled(alloc: Global, text: &[u8], count: usize) -> Result<Word, FuncFault>
     requires { count ≤ longest_text }
-    ensures { IfOk result (λ word. word ≡ spec.last_filled count text.now) }
+    ensures { Answers (Ok (spec.last_filled count text.now)) result }
 {
     let kept = count.min(text.len());
     let mut bytes = vec![in alloc; BLANK; count - kept]?;
@@ -61,9 +63,9 @@ pub fn first_bytes(text: &[u8], count: usize) -> &[u8]
 
 /// A text of at most 255 bytes, in which each byte of `from` gives way to the byte of `out` at its first place in `from`, or
 /// to a blank where `out` is too short.
-pub fn translated(alloc: Global, text: &[u8], out: &[u8], from: &[u8]) -> Result<Word, AllocError>
+pub fn translated(alloc: Global, text: &[u8], out: &[u8], from: &[u8]) -> Result<Word, FuncFault>
     requires { length text.now ≤ longest_text }
-    ensures { IfOk result (λ word. word ≡ spec.translated text.now out.now from.now) }
+    ensures { Answers (Ok (spec.translated text.now out.now from.now)) result }
 {
     let bytes: Vec<u8> = text
         .iter()

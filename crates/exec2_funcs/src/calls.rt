@@ -1,17 +1,18 @@
 // The functions, each with its arguments.
-ghost use Rattle.std.specs.Prelude.{◌≡◌, ◌≤◌, length, position, IfOk};
+ghost use Rattle.std.specs.Prelude.{◌≡◌, ◌≤◌, length, pos, position, IfOk, Ok};
 ghost use Rattle.std.specs.Str.{bytes_eq};
 ghost use Rattle.exec2_funcs.specs.Calls as spec;
 ghost use Rattle.exec2_funcs.specs.Calls.{Answers};
 ghost use Rattle.exec2_funcs.specs.Values as values;
 ghost use Rattle.cms_text.specs.Limits.{longest_text};
+ghost use Rattle.cms_text.specs.Numbers.{written};
 
 use crate::arithmetic::{Operation, arithmetic};
 use crate::bytes::{first_bytes, first_filled, from_place, last_filled, location, translated};
 use crate::join::{concat, literal, string};
 use crate::{FuncFault, Function};
 use cms_text::{Word, WordList, number, without_trailing_blanks};
-use exec2_parse::written;
+use exec2_parse::numeral;
 use std::alloc::Global;
 
 /// The value of a function at these words, which are what follows its OF, expanded. The faults are those of VM/SP EXEC 2's
@@ -41,6 +42,22 @@ pub fn call(alloc: Global, function: Function, words: &WordList) -> Result<Word,
     }
 }
 
+/// A text as a value.
+fn text_value(alloc: Global, text: &[u8]) -> Result<Word, FuncFault>
+    requires { length text.now ≤ longest_text }
+    ensures { Answers (Ok text.now) result }
+{
+    Ok(Word::of(alloc, text)?)
+}
+
+/// A count as a value.
+#[tactic(auto, unfolding(cms_text::specs::Numbers::decimal_of))]
+fn count_value(alloc: Global, count: usize) -> Result<Word, FuncFault>
+    ensures { Answers (Ok (written (pos count))) result }
+{
+    Ok(numeral(alloc, count)?)
+}
+
 const NUM: [u8; 3] = [0xD5, 0xE4, 0xD4];
 
 const CHAR: [u8; 4] = [0xC3, 0xC8, 0xC1, 0xD9];
@@ -53,7 +70,7 @@ fn datatype(alloc: Global, words: &[Word]) -> Result<Word, FuncFault>
     let [word] = words else {
         return Err(FuncFault::Arity);
     };
-    Ok(Word::of(alloc, kind_of(word.bytes()))?)
+    text_value(alloc, kind_of(word.bytes()))
 }
 
 fn kind_of(word: &[u8]) -> &'static [u8]
@@ -75,7 +92,7 @@ fn left(alloc: Global, words: &[Word]) -> Result<Word, FuncFault>
         return Err(FuncFault::Arity);
     };
     let count = count_in(0, count)?;
-    Ok(first_filled(alloc, word.bytes(), count)?)
+    first_filled(alloc, word.bytes(), count)
 }
 
 /// The last bytes of a word, filled with blanks on the left.
@@ -87,7 +104,7 @@ fn right(alloc: Global, words: &[Word]) -> Result<Word, FuncFault>
         return Err(FuncFault::Arity);
     };
     let count = count_in(0, count)?;
-    Ok(last_filled(alloc, word.bytes(), count)?)
+    last_filled(alloc, word.bytes(), count)
 }
 
 /// How many bytes a word has.
@@ -98,7 +115,7 @@ fn length(alloc: Global, words: &[Word]) -> Result<Word, FuncFault>
     let [word] = words else {
         return Err(FuncFault::Arity);
     };
-    Ok(written(alloc, word.bytes().len() as i64)?)
+    count_value(alloc, word.bytes().len())
 }
 
 /// The first place, from 1, at which a word goes on with another, or 0.
@@ -109,7 +126,7 @@ fn location_in(alloc: Global, words: &[Word]) -> Result<Word, FuncFault>
     let [part, word] = words else {
         return Err(FuncFault::Arity);
     };
-    Ok(written(alloc, location(part.bytes(), word.bytes()) as i64)?)
+    count_value(alloc, location(part.bytes(), word.bytes()))
 }
 
 /// The bytes of a word from a place on, all or so many.
@@ -120,12 +137,12 @@ fn piece(alloc: Global, words: &[Word]) -> Result<Word, FuncFault>
     match words {
         [word, place] => {
             let place = count_in(1, place)?;
-            Ok(Word::of(alloc, from_place(word.bytes(), place))?)
+            text_value(alloc, from_place(word.bytes(), place))
         }
         [word, place, count] => {
             let place = count_in(1, place)?;
             let count = count_in(0, count)?;
-            Ok(Word::of(alloc, first_bytes(from_place(word.bytes(), place), count))?)
+            text_value(alloc, first_bytes(from_place(word.bytes(), place), count))
         }
         _ => Err(FuncFault::Arity),
     }
@@ -139,7 +156,7 @@ fn position(alloc: Global, words: &[Word]) -> Result<Word, FuncFault>
     let [word, others @ ..] = words else {
         return Err(FuncFault::Arity);
     };
-    Ok(written(alloc, number_of_equal(word.bytes(), others) as i64)?)
+    count_value(alloc, number_of_equal(word.bytes(), others))
 }
 
 /// The number, from 1, of the first word with these bytes, or 0.
@@ -166,7 +183,7 @@ fn trans(alloc: Global, words: &[Word]) -> Result<Word, FuncFault>
     let [word, out, from] = words else {
         return Err(FuncFault::Arity);
     };
-    Ok(translated(alloc, word.bytes(), out.bytes(), from.bytes())?)
+    translated(alloc, word.bytes(), out.bytes(), from.bytes())
 }
 
 /// A word without the blanks at its end.
@@ -177,7 +194,7 @@ fn trim(alloc: Global, words: &[Word]) -> Result<Word, FuncFault>
     let [word] = words else {
         return Err(FuncFault::Arity);
     };
-    Ok(Word::of(alloc, without_trailing_blanks(word.bytes()))?)
+    text_value(alloc, without_trailing_blanks(word.bytes()))
 }
 
 /// The further word of a number, which counts from 1, or empty.
@@ -189,7 +206,7 @@ fn word(alloc: Global, words: &[Word]) -> Result<Word, FuncFault>
         return Err(FuncFault::Arity);
     };
     let number = count_in(1, number)?;
-    Ok(Word::of(alloc, nth_word(number, others))?)
+    text_value(alloc, nth_word(number, others))
 }
 
 fn nth_word(number: usize, words: &[Word]) -> &[u8]

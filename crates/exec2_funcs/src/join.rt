@@ -23,7 +23,7 @@ pub fn literal(alloc: Global, words: &[Word]) -> Result<Word, FuncFault>
     ensures { Answers (literal_call words.now) result }
 {
     let [first, others @ ..] = words else {
-        return Ok(Word::of(alloc, &[])?);
+        return Ok(Word::take(Vec::new(alloc)));
     };
     let mut text = first.bytes().to_vec(alloc)?;
     for word in others {

@@ -1,14 +1,17 @@
-use Rattle.std.proofs.Common.{◌≤◌, ◌∙◌, length, le_of_eq, le_trans, subst, sym}
-use Rattle.std.proofs.lemmas.Result.{IfOk-from_err}
+use Rattle.std.proofs.Common.{◌≤◌, ◌∙◌, length, ap, le_of_eq, le_trans, subst, sym}
+use Rattle.std.specs.Prelude.{Ok}
 use Rattle.cms_text.specs.Texts.{Text}
+use Rattle.exec2_funcs.specs.Values.{last_filled}
 use Rattle.exec2_funcs.proofs.Filled.{filled_so, length_filled}
+use Rattle.exec2_funcs.proofs.Passed.{no_memory}
 use Rattle.exec2_funcs.proofs.bytes.last_filled.Goals as goal
 
 pub returns-in_err-bytes : goal.returns-in_err-bytes
-returns-in_err-bytes c = IfOk-from_err c.from_residual.result _ c.from_residual.ensures.0
+returns-in_err-bytes c = no_memory (Ok (last_filled c.args.count c.args.text.now)) c.from_residual.result c.from_residual.ensures.1
 
 pub returns-in_err-extend_from_slice : goal.returns-in_err-extend_from_slice
-returns-in_err-extend_from_slice c = IfOk-from_err c.from_residual-in_err-extend_from_slice.result _ c.from_residual-in_err-extend_from_slice.ensures.0
+returns-in_err-extend_from_slice c =
+    no_memory (Ok (last_filled c.args.count c.args.text.now)) c.from_residual-in_err-extend_from_slice.result c.from_residual-in_err-extend_from_slice.ensures.1
 
 pub take-requires : goal.take-requires
 take-requires c =
@@ -20,5 +23,5 @@ take-requires c =
 pub returns : goal.returns
 returns c =
     let a = c.args in
-    c.take.ensures ∙ filled_so a.text.now c.in_ok-bytes.bytes.items c.extend_from_slice.new.self.items a.count c.min-kept.result c.min-kept.ensures (c.in_ok-bytes.ensures.items_if_clones_equal (λ y is. is))
-    c.in_ok-extend_from_slice.ensures.items
+    sym (ap Ok (c.take.ensures ∙ filled_so a.text.now c.in_ok-bytes.bytes.items c.extend_from_slice.new.self.items a.count c.min-kept.result c.min-kept.ensures
+    (c.in_ok-bytes.ensures.items_if_clones_equal (λ y is. is)) c.in_ok-extend_from_slice.ensures.items))

@@ -8,7 +8,7 @@ use Rattle.exec2_funcs.proofs.Passed.{no_memory}
 use Rattle.exec2_funcs.proofs.join.literal.Goals as goal
 
 pub returns-in_default : goal.returns-in_default
-returns-in_default c = literal_none c.args.words.now c.in_default.len_below ∙ ap Ok (sym c.in_ok-of.ensures)
+returns-in_default c = literal_none c.args.words.now c.in_default.len_below ∙ ap Ok (sym (c.take.ensures ∙ c.new.ensures.items))
 
 pub loop-word-init : goal.loop-word-init
 loop-word-init c =
@@ -19,11 +19,8 @@ loop-word-init c =
 pub append_word-requires : goal.append_word-requires
 append_word-requires c = c.loop-word.invariant.short
 
-pub returns-in_err-of : goal.returns-in_err-of
-returns-in_err-of c = no_memory (literal_call c.args.words.now) c.from_residual.result c.from_residual.ensures.1
-
 pub returns-in_err-text : goal.returns-in_err-text
-returns-in_err-text c = no_memory (literal_call c.args.words.now) c.from_residual-in_err-text.result c.from_residual-in_err-text.ensures.1
+returns-in_err-text c = no_memory (literal_call c.args.words.now) c.from_residual.result c.from_residual.ensures.1
 
 pub loop-word-preserved : goal.loop-word-preserved
 loop-word-preserved c =
@@ -34,8 +31,8 @@ loop-word-preserved c =
           (joined words) c.loop-word-test.true c.word-item.is c.bytes-in-loop-word.ensures.bytes c.in_ok-append_word.ensures.added c.loop-word.invariant.same;
     }
 
-pub take-requires : goal.take-requires
-take-requires c = c.loop-word.invariant.short
+pub take-requires-2 : goal.take-requires-2
+take-requires-2 c = c.loop-word.invariant.short
 
 pub returns-in_err-append_word : goal.returns-in_err-append_word
 returns-in_err-append_word c =
@@ -51,4 +48,4 @@ pub returns : goal.returns
 returns c =
     let words = c.args.words.now in
     literal_end words (take (length words - 1) (drop 1 words)) c.loop-word.word-index c.loop-word.text.items c.loop-word-test.false c.loop-word.invariant.short c.loop-word.invariant.same
-    ∙ ap Ok (sym c.take.ensures)
+    ∙ ap Ok (sym c.take-2.ensures)
