@@ -1,4 +1,5 @@
-use Rattle.std.proofs.Common.{◌≡◌, ◌+◌, ◌<◌, ◌≤◌, Bool, true, false, ⊎_elim, inl, refl, sym, arith}
+use Rattle.std.proofs.Common.{◌≡◌, ◌+◌, ◌<◌, ◌≤◌, Bool, true, false, ⊎_elim, inl, inr, refl, sym, arith}
+use Rattle.cms_journal.proofs.Pieces.{grown_same}
 use Rattle.cms_copyfile.specs.Copies.{copies_from, copies_to}
 use Rattle.cms_copyfile.specs.Records.{copied}
 use Rattle.cms_copyfile.proofs.CopyPasses.{passed_by, put_failed, put_never, put_there}
@@ -76,3 +77,64 @@ returns-in_default g c =
       fault = inl refl;
       changes = record { grown = put.changes.grown; faults = put.changes.faults; edges = put.changes.edges; cause = λ devices. put.changes.cause (inl device) };
     }
+
+pub returns-then-place-plan-clause-capacity : goal.returns-then-place-plan-clause-capacity
+returns-then-place-plan-clause-capacity g c = omega arith
+
+pub returns-then-place-plan-clause-same : goal.returns-then-place-plan-clause-same
+returns-then-place-plan-clause-same g c = record { entry = refl; systems = refl; shape = refl; writer = record { unit = refl; bsize = refl; psize = refl; tree = refl; size = refl; kept = refl } }
+
+pub returns-then-place-plan-clause-still : goal.returns-then-place-plan-clause-still
+returns-then-place-plan-clause-still g c = c.requires.ready
+
+pub returns-then-place-plan-clause-fault : goal.returns-then-place-plan-clause-fault
+returns-then-place-plan-clause-fault g c = tt
+
+pub returns-then-place-plan-clause-changes : goal.returns-then-place-plan-clause-changes
+returns-then-place-plan-clause-changes g c = record { grown = grown_same (g.W.World.told c.args.world.now) (g.W.World.told c.args.world.now) refl; faults = omega arith; edges = refl; cause = tt }
+
+pub copy_record-requires : goal.copy_record-requires
+copy_record-requires g c = c.requires.room
+
+pub put_copy-requires : goal.put_copy-requires
+put_copy-requires g c = record { ready = c.requires.ready }
+
+pub returns-in-Ok-clause-capacity : goal.returns-in-Ok-clause-capacity
+returns-in-Ok-clause-capacity g c = elim c.if-not-kept.branch [
+  | then-not-kept v ↦ rw v.buffer-is v.copy_record.ensures.capacity
+  | else-not-kept v ↦ rw v.buffer-is (omega arith)
+]
+
+pub returns-in-Ok-clause-same : goal.returns-in-Ok-clause-same
+returns-in-Ok-clause-same g c = c.in-Ok.ensures.same
+
+pub returns-in-Ok-clause-still : goal.returns-in-Ok-clause-still
+returns-in-Ok-clause-still g c = c.in-Ok.ensures.still
+
+pub returns-in-Ok-clause-fault : goal.returns-in-Ok-clause-fault
+returns-in-Ok-clause-fault g c = tt
+
+pub returns-in-Ok-clause-changes : goal.returns-in-Ok-clause-changes
+returns-in-Ok-clause-changes g c =
+    let put = c.in-Ok.ensures.changes in
+    record { grown = put.grown; faults = put.faults; edges = put.edges; cause = tt }
+
+pub returns-in-Altered-clause-capacity : goal.returns-in-Altered-clause-capacity
+returns-in-Altered-clause-capacity g c = elim c.if-not-kept.branch [
+  | then-not-kept v ↦ rw v.buffer-is v.copy_record.ensures.capacity
+  | else-not-kept v ↦ rw v.buffer-is (omega arith)
+]
+
+pub returns-in-Altered-clause-same : goal.returns-in-Altered-clause-same
+returns-in-Altered-clause-same g c = c.in-Err.ensures.same
+
+pub returns-in-Altered-clause-still : goal.returns-in-Altered-clause-still
+returns-in-Altered-clause-still g c = c.in-Err.ensures.still
+
+pub returns-in-Altered-clause-fault : goal.returns-in-Altered-clause-fault
+returns-in-Altered-clause-fault g c = inr refl
+
+pub returns-in-Altered-clause-changes : goal.returns-in-Altered-clause-changes
+returns-in-Altered-clause-changes g c =
+    let put = c.in-Err.ensures.changes in
+    record { grown = put.grown; faults = put.faults; edges = put.edges; cause = ⊎_elim (λ is. absurd (cc is)) (λ is. absurd (cc is)) }
