@@ -4,6 +4,7 @@ pub mod Marked
 pub mod Gathered
 pub mod Faults
 pub mod Exits
+pub mod Rooms
 pub mod Rounded
 pub mod EntriesRead
 pub mod Listings

@@ -1,5 +1,5 @@
 -- What the directory says, test by test.
-use Rattle.std.proofs.Common.{◌≡◌, ◌⊎◌, inl, inr, ℕ, zero, suc, ◌-◌, ◌/◌, ◌<◌, ◌≤◌, List, [], ◌∷◌, length, drop, slice_index, slice_get, IsSomeAnd, Option, Some, None, Result, Ok, Err, refl, sym, ◌∙◌, subst, arith, ap, ◌*◌, ◌+◌}
+use Rattle.std.proofs.Common.{◌≡◌, ◌⊎◌, ⊎_elim, inl, inr, ℕ, zero, suc, ◌-◌, ◌/◌, ◌<◌, ◌≤◌, List, [], ◌∷◌, length, drop, slice_index, slice_get, IsSomeAnd, Option, Some, None, Result, Ok, Err, refl, sym, ◌∙◌, subst, arith, ap, ◌*◌, ◌+◌}
 use Rattle.std.proofs.lemmas.Option.{same_Some}
 use Rattle.cms_names.specs.declared.name.Format.TheVariants.{F}
 use Rattle.cms_fields.specs.declared.entry.Entry.{Entry}
@@ -152,3 +152,10 @@ map_read place j s at result shape same read =
     go : (image : Image) (r : Result Walked OpenFault) → ReadsTree image (system_at place s None) r → ReadsMap place image s r
     go image (Ok walked) read = (sym (system_tree place image s None shape) ∙ read.0, read.1)
     go image (Err why) read = subst (λ (t : Result Met OpenFault). IsFaultOf t why) (system_tree place image s None shape) read
+
+-- the block in which the directory begins is one of the volume's
+pub origin_block : (j : Journal) (unit total origin bsize : ℕ) → 6 ≤ total → (origin ≡ 4) ⊎ (origin ≡ 5) → HasBlocks j.units unit total bsize → HasBlock j.units unit origin bsize
+origin_block j unit total origin bsize some at has =
+    let low : 1 ≤ origin = ⊎_elim (λ (is : origin ≡ 4). omega (arith, is)) (λ (is : origin ≡ 5). omega (arith, is)) at in
+    let high : origin ≤ total = ⊎_elim (λ (is : origin ≡ 4). omega (arith, is, some)) (λ (is : origin ≡ 5). omega (arith, is, some)) at in
+    on_unit j.units unit total bsize origin low high has

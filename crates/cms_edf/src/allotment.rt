@@ -28,7 +28,7 @@ use cms_tree::shape;
 use std::alloc::{AllocError, Global};
 
 /// Why no update is planned.
-#[derive(Clone, Copy, Debug)]
+#[derive(Clone, Copy)]
 pub enum PlanFault {
     /// a limit is passed, which never comes of a drop, a renaming or a relabelling: 1 the number of files, 2 that of records, 3 that of
     /// stored bytes
@@ -179,6 +179,13 @@ fn joined(alloc: Global, first: u32, more: &[u32]) -> Result<Vec<u32>, AllocErro
     Ok(blocks)
 }
 
+// The same map.
+fn copied(map: &Map) -> Result<Map, AllocError>
+    ensures { IfOk result (λ m. m ≡ map.now) }
+{
+    map.clone()
+}
+
 /// The lowest free blocks, and the map with them.
 #[derive(Drop)]
 pub struct Taken {
@@ -196,7 +203,7 @@ pub fn take_blocks(alloc: Global, map: &Map, count: u32) -> Result<Taken, AllocE
     ensures count { IfOk result (λ t. length t.map ≡ length map.now) }
 {
     let mut blocks = Vec::with_capacity(alloc, count as usize)?;
-    let mut map = map.clone()?;
+    let mut map = copied(map)?;
     map.take_lowest(count, &mut blocks);
     Ok(Taken { blocks, map })
 }

@@ -10,15 +10,6 @@ use std::alloc::{AllocError, Global};
 /// The block of the label.
 pub const LABEL: u32 = 3;
 
-/// The same elements.
-pub fn copied<T: Copy>(alloc: Global, from: &[T]) -> Result<Vec<T>, AllocError>
-    ensures { IfOk result (λ v. v.items ≡ from.now) }
-{
-    let mut copy = Vec::with_capacity(alloc, from.len())?;
-    copy.extend_from_slice(from)?;
-    Ok(copy)
-}
-
 /// Appends elements.
 pub fn append<T: Copy>(into: &mut Vec<T>, more: &[T]) -> Result<(), OpenFault>
     ensures ok { OnOk result (into.new.items ≡ into.old.items ++ more.now) }
@@ -50,7 +41,7 @@ pub fn tree_in(alloc: Global, blocks: &[u32], count: u32) -> Result<HeldTree, Al
 {
     let (leaves, pointers) = blocks.split_at(count as usize);
     Ok(HeldTree {
-        leaves: copied(alloc, leaves)?,
-        pointers: copied(alloc, pointers)?,
+        leaves: leaves.to_vec(alloc)?,
+        pointers: pointers.to_vec(alloc)?,
     })
 }

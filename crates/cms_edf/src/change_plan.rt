@@ -122,8 +122,7 @@ fn relabel(alloc: Global, held: &Held, label: Label) -> Result<NewLabel, AllocEr
     ensures long { IfOk result (λ new. length new.bytes.items ≡ held.now.volume.disk.bsize) }
     ensures size { OnOk result (IsBlockSize held.now.volume.disk.bsize) }
 {
-    let mut bytes = Vec::with_capacity(alloc, held.bsize.bytes() as usize)?;
-    bytes.extend_from_slice(&held.label_bytes)?;
+    let mut bytes = held.label_bytes.to_vec(alloc)?;
     write_label(&label, bytes.as_mut_slice());
     Ok(NewLabel { label, bytes })
 }
@@ -161,32 +160,31 @@ pub fn fill_systems(
     requires map_few { length allotment.map_tree.leaves < 2 ^ 32 }
     ensures { IfOk result (IsFilled held.now.volume entries.now allotment stamp.now) }
 {
-    let Allotment {
-        file: _,
-        directory,
-        map_tree,
-        map_part,
-        map,
-    } = allotment;
-    let directory_bytes = directory_bytes(
+    let Ok(directory_bytes) = directory_bytes(
         alloc,
         held.bsize,
-        &directory,
-        &map_tree,
-        &directory.part().leaves,
+        &allotment.directory,
+        &allotment.map_tree,
+        &allotment.directory.part().leaves,
         entries,
         stamp,
-    )?;
-    let new = relabel(alloc, held, label_for(held.label, &map))?;
+    ) else {
+        drop(allotment);
+        return Err(AllocError);
+    };
+    let Ok(new) = relabel(alloc, held, label_for(held.label, &allotment.map)) else {
+        drop(allotment);
+        return Err(AllocError);
+    };
     Ok(Systems {
         bsize: held.bsize,
         label: new.label,
         label_bytes: new.bytes,
-        directory,
+        directory: allotment.directory,
         directory_bytes,
-        map_tree,
-        map_part,
-        map,
+        map_tree: allotment.map_tree,
+        map_part: allotment.map_part,
+        map: allotment.map,
     })
 }
 
@@ -310,6 +308,33 @@ fn relabel_step(alloc: Global, held: &Held, volid: [u8; 6]) -> Result<Step, Plan
     }
 }
 
+// The step of a change.
+fn step_for(alloc: Global, held: &Held, change: &Change, stamp: &Stamp) -> Result<Step, PlanFault>
+    requires stamp { is_stamp stamp.now ≡ true }
+    requires change { CanChange held.now.volume.files change.now }
+    ensures planned { IfOk result (IsPlanFor held.now.volume (change_of change.now) stamp.now) }
+    ensures full { IfErr result (IsFullFor held.now.volume change.now) }
+{
+    match change {
+        Change::Drop { name } => {
+            let place = held.place(name);
+            edit_step(alloc, held, FileEdit::Drop { place }, stamp)
+        }
+        Change::Rename { from, to, number } => {
+            let edit = FileEdit::Rename {
+                place: held.place(from),
+                to: **to,
+                number: *number,
+            };
+            edit_step(alloc, held, edit, stamp)
+        }
+        Change::Relabel { volid } => relabel_step(alloc, held, *volid),
+        Change::Century { pivot } => {
+            edit_step(alloc, held, FileEdit::Century { pivot: *pivot }, stamp)
+        }
+    }
+}
+
 /// Plans a change: all that it writes, and all memory that it needs. Nothing is written, and the volume stays as it is held.
 ///
 /// A file that is changed is there, and its new name is no other file's; a pivot is at most 100. `Full` comes exactly where the new directory and the new map
@@ -332,23 +357,6 @@ pub fn plan(
     let Ok(()) = held.reserve() else {
         return Err(PlanFault::Memory);
     };
-    let step = match change {
-        Change::Drop { name } => {
-            let place = held.place(name);
-            edit_step(alloc, held, FileEdit::Drop { place }, stamp)?
-        }
-        Change::Rename { from, to, number } => {
-            let edit = FileEdit::Rename {
-                place: held.place(from),
-                to: **to,
-                number: *number,
-            };
-            edit_step(alloc, held, edit, stamp)?
-        }
-        Change::Relabel { volid } => relabel_step(alloc, held, *volid)?,
-        Change::Century { pivot } => {
-            edit_step(alloc, held, FileEdit::Century { pivot: *pivot }, stamp)?
-        }
-    };
+    let step = step_for(alloc, held, change, stamp)?;
     Ok(Plan { step })
 }

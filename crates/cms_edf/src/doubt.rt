@@ -14,7 +14,7 @@ use cms_journal::BlockSize;
 use cms_world::{Failed, World};
 
 /// What a crash may find where an update was cut off.
-#[derive(Clone, Copy, Debug)]
+#[derive(Clone, Copy)]
 pub enum Doubt {
     /// the old volume
     Old,

@@ -152,13 +152,42 @@ fn directory_block(
     Ok(bytes)
 }
 
-// The data blocks of the directory of an empty volume.
-fn first_leaves(alloc: Global) -> Result<Vec<u32>, AllocError>
-    ensures { IfOk result (λ v. v.items ≡ 4 ∷ []) }
+// The directory, the map and the label of an empty volume.
+fn first_systems(
+    alloc: Global,
+    bsize: BlockSize,
+    blocks: u32,
+    volid: [u8; 6],
+    stamp: &Stamp,
+) -> Result<Systems, AllocError>
+    requires blocks { 8 ≤ blocks }
+    requires stamp { is_stamp stamp.now ≡ true }
+    ensures { IfOk result (λ s. (unit : ℕ) → IsEmptyVolume
+        (record { unit = unit; disk = record { bsize = bsize; count = blocks }; systems = s })
+        volid stamp.now) }
 {
-    let mut leaves = Vec::with_capacity(alloc, 1)?;
-    leaves.push(ORIGIN)?;
-    Ok(leaves)
+    let first = first_map(alloc, bsize, blocks)?;
+    let label = Label {
+        volid,
+        bsize: bsize.bytes(),
+        origin: ORIGIN,
+        blocks,
+        in_use: first.used,
+    };
+    let label_bytes = label_block(alloc, &label, stamp)?;
+    let directory = NewDirectory::first(alloc, ORIGIN)?;
+    let directory_bytes = directory_block(alloc, bsize, &directory, &first.tree, stamp)?;
+    let map_part = TreePart::of_whole(alloc, &first.tree)?;
+    Ok(Systems {
+        bsize,
+        label,
+        label_bytes,
+        directory,
+        directory_bytes,
+        map_tree: first.tree,
+        map_part,
+        map: first.map,
+    })
 }
 
 /// Plans an empty volume of all blocks of a unit, 8 at least, with this volume id, in EBCDIC, and this stamp. Nothing is written.
@@ -175,33 +204,13 @@ pub fn plan_make(
     ensures disk { IfOk result (λ p. p.disk ≡ record { bsize = bsize; count = unit.now.blocks }) }
     ensures empty { IfOk result (λ p. IsEmptyVolume p volid stamp.now) }
 {
-    let FirstMap { tree, map, used } = first_map(alloc, bsize, unit.blocks)?;
-    let label = Label {
-        volid,
-        bsize: bsize.bytes(),
-        origin: ORIGIN,
-        blocks: unit.blocks,
-        in_use: used,
-    };
-    let label_bytes = label_block(alloc, &label, stamp)?;
-    let directory = NewDirectory::first(alloc, ORIGIN)?;
-    let directory_bytes = directory_block(alloc, bsize, &directory, &tree, stamp)?;
-    let leaves = first_leaves(alloc)?;
-    let map_part = TreePart::of_whole(alloc, &tree)?;
+    let leaves = vec![in alloc; ORIGIN; 1]?;
+    let systems = first_systems(alloc, bsize, unit.blocks, volid, stamp)?;
     Ok(MakePlan {
         unit: unit.number,
         bsize,
         blocks: unit.blocks,
-        systems: Systems {
-            bsize,
-            label,
-            label_bytes,
-            directory,
-            directory_bytes,
-            map_tree: tree,
-            map_part,
-            map,
-        },
+        systems,
         leaves,
         files: IndexMap::new(alloc),
     })

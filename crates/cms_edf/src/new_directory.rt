@@ -110,10 +110,8 @@ impl NewDirectory {
             ≡ record { leaves = origin ∷ []; pointers = [] }) }
         ensures part { IfOk result (λ d. d.part ≡ whole_part d.tree) }
     {
-        let mut leaves = Vec::with_capacity(alloc, 1)?;
-        leaves.push(0)?;
-        let mut numbers = Vec::with_capacity(alloc, 1)?;
-        numbers.push(origin)?;
+        let leaves = vec![in alloc; 0; 1]?;
+        let numbers = vec![in alloc; origin; 1]?;
         let pointers = Vec::new(alloc);
         Ok(NewDirectory {
             old: Snapshot::of(&pointers),

@@ -24,7 +24,7 @@ pub const POINTER_SIZE: u8 = 4;
 pub const FIXED: u8 = 0xC6;
 
 /// Where a system file stands: its root, data blocks, count of records and levels of pointer blocks.
-#[derive(Drop)]
+#[derive(Clone, Copy)]
 pub struct SystemFile {
     pub root: u32,
     pub blocks: u32,
@@ -38,6 +38,8 @@ impl Model for SystemFile {
     ghost Value = { systems.SystemFile };
 
     ghost view = { λ s. record { root = s.root; blocks = s.blocks; count = s.count; levels = s.levels } };
+
+    ghost inverse = { λ s. record { root = s.root; blocks = s.blocks; count = s.count; levels = s.levels } };
 }
 
 // What the bytes of an entry say.

@@ -4,6 +4,7 @@ ghost use Rattle.cms_edf.specs.FileDrafts.{CanDraft};
 
 use crate::edf::volumes::open;
 use cms_cases::{Report, number, word};
+use cms_disk::DiskFault;
 use cms_edf::{DraftShape, Held, plan_draft};
 use cms_images::{NOON, file_named, image_named, world_with};
 use cms_journal::BlockSize;
@@ -59,7 +60,7 @@ fn tell_plan(into: &mut Report, alloc: Global, held: &mut Held, case: &str) {
             drop(draft);
             into.push_str("planned")
         }
-        Err(why) => into.value(&why),
+        Err(why) => into.value(&DiskFault::from(why)),
     }
 }
 

@@ -89,12 +89,24 @@ failing/8/landed => Making(Either), 6 events, TEST01 (512, 9, 3, 0)
 failing/9/lost => TEST01 (512, 9, 3, 0), 7 events, TEST01 (512, 9, 3, 0)";
 
 // Why no volume is made.
-#[derive(Clone, Copy, Debug)]
+#[derive(Clone, Copy)]
 enum Refusal {
     Unattached,
     Memory,
     Wiping(Doubt),
     Making(Doubt),
+}
+
+// How a report names it.
+fn refusal_name(why: Refusal) -> &'static str {
+    match why {
+        Refusal::Unattached => "Unattached",
+        Refusal::Memory => "Memory",
+        Refusal::Wiping(Doubt::Old) => "Wiping(Old)",
+        Refusal::Wiping(Doubt::Either) => "Wiping(Either)",
+        Refusal::Making(Doubt::Old) => "Making(Old)",
+        Refusal::Making(Doubt::Either) => "Making(Either)",
+    }
 }
 
 // Attaches the disk, wipes it, and makes an empty volume.
@@ -132,7 +144,7 @@ fn push_made(into: &mut Report, alloc: Global, world: &mut MemWorld, size: Block
             push_state(into, &held);
             drop(held)
         }
-        Err(why) => into.value(&why),
+        Err(why) => into.push_str(refusal_name(why)),
     }
 }
 

@@ -1,8 +1,10 @@
 -- What is needed, and whether it is there.
-use Rattle.std.proofs.Common.{◌∙◌, ap, length, subst, arith, ℕ, sym, ◌/◌}
+use Rattle.std.proofs.Common.{◌≡◌, ◌∙◌, ◌+◌, ◌^◌, ◌<◌, ◌≤◌, ap, length, subst, arith, ℕ, sym, ◌/◌}
 use Rattle.cms_map.specs.Bits.{free_blocks, HasFixed}
 use Rattle.cms_held.specs.HeldVolumes.{Held}
 use Rattle.cms_held.specs.Kept.{Keeps}
+use Rattle.cms_held.proofs.Allotted.{map_small}
+use Rattle.cms_journal.proofs.Sizes.{block_bounds}
 use Rattle.cms_edf.proofs.AllottedSteps.{Splits, splits_asked}
 use Rattle.cms_model.specs.DirectoryParts.{directory_count, blocks_made}
 use Rattle.cms_model.specs.Lists.{In}
@@ -136,3 +138,32 @@ returns-in-Err-clause-map_few c = tt
 
 pub returns-in-Err-clause-room : goal.returns-in-Err-clause-room
 returns-in-Err-clause-room c = tt
+
+-- what is needed is there where it is no more than what is free
+all_there : (need free all : ℕ) → free ≡ all → need ≤ free → need ≤ all
+all_there need free all is enough = omega arith
+
+some_counted : (count leaves nodes : ℕ) → count ≡ leaves + nodes → 1 ≤ leaves → 1 ≤ count
+some_counted count leaves nodes counted some = omega arith
+
+few_leaves : (n leaves : ℕ) → n ≡ leaves → leaves ≤ 1048584 → n < 2 ^ 32
+few_leaves n leaves is few = omega arith
+
+pub overflow_sub-need : goal.overflow_sub-need
+overflow_sub-need c = some_counted _ _ _ c.written_count.ensures (splits (goal.at.overflow_sub-need c).In-Ok).some
+
+pub allot_all-requires-clause-enough : goal.allot_all-requires-clause-enough
+allot_all-requires-clause-enough c = all_there _ _ _ (c.free_count-free.ensures.count ∙ ap (λ (h : Held). length (free_blocks h.volume.bits)) c.held.view_is) c.if-free-need.false
+
+pub returns-in-Ok-allot_all-clause-map_few : goal.returns-in-Ok-allot_all-clause-map_few
+returns-in-Ok-allot_all-clause-map_few c =
+    let v = c.args.held.now.volume in
+    let kept : Keeps v = subst (λ (h : Held). Keeps h.volume) c.held.view_is c.held.invariant.kept in
+    let bounds = block_bounds v.disk.bsize kept.sized in
+    few_leaves _ _ c.in-Ok-allot_all.ensures.map_is (map_small v.label.blocks v.disk.bsize bounds.0 bounds.1 kept.small)
+
+pub returns-in_default-clause-full : goal.returns-in_default-clause-full
+returns-in_default-clause-full c = tt
+
+pub returns-in-Err-clause-full : goal.returns-in-Err-clause-full
+returns-in-Err-clause-full c = tt

@@ -1,5 +1,5 @@
 -- The data blocks in which the entries stand, and the pointer blocks over them.
-use Rattle.std.proofs.Common.{◌≡◌, ◌≤◌, ◌+◌, ◌*◌, ◌/◌, ℕ, length, sym, ◌∙◌, ap, subst, rules, arith}
+use Rattle.std.proofs.Common.{◌≡◌, ◌≤◌, ◌+◌, ◌*◌, ◌/◌, ℕ, length, sym, ◌∙◌, ap, subst, arith}
 use Rattle.std.proofs.lemmas.Result.{IfOk-weaker}
 use Rattle.cms_fields.specs.Numbers.{up}
 use Rattle.cms_model.specs.DirectoryParts.{blocks_made, directory_count}
@@ -16,13 +16,13 @@ use Rattle.cms_edf.proofs.allotment.directory_places.Goals as goal
 pub overflow_cast-before : goal.overflow_cast-before
 overflow_cast-before c =
     let few = c.held.invariant.kept.directory_shape.few in
-    let long : c.len-before.result ≡ length c.held.inside.directory.items = search rules in
+    let long = c.len-before.ensures ∙ c.held.inside.directory.ok.0 in
     omega (arith, few, long)
 
 pub of_shared-requires-clause-some_before : goal.of_shared-requires-clause-some_before
 of_shared-requires-clause-some_before c =
     let some = c.held.invariant.kept.directory_shape.some in
-    let long : c.len-before.result ≡ length c.held.inside.directory.items = search rules in
+    let long = c.len-before.ensures ∙ c.held.inside.directory.ok.0 in
     subst (λ (n : ℕ). 1 ≤ n) (sym long) some
 
 pub of_shared-requires-clause-some : goal.of_shared-requires-clause-some
@@ -51,7 +51,7 @@ returns-clause-nodes c =
     let v = c.args.held.now.volume in
     let written = c.in_ok-written.ensures ∙ ap (λ (h : Held). blocks_made h.volume.disk.bsize x.files (numbers_made x)) c.held.view_is in
     let size = c.bytes-bsize.ensures.value ∙ ap (λ (h : Held). h.volume.disk.bsize) c.held.view_is in
-    let long : c.len-before.result ≡ length c.held.inside.directory.items = search rules in
+    let long = c.len-before.ensures ∙ c.held.inside.directory.ok.0 in
     let before = long ∙ ap (λ (h : Held). length h.volume.directory.leaves) c.held.view_is in
     let count = rounded c.div_ceil-count.result (64 * (x.files + 2)) c.bytes-bsize.result c.div_ceil-count.ensures c.bytes-bsize.ensures.least in
     let count' = count ∙ ap (up (64 * (x.files + 2))) size in

@@ -1,4 +1,4 @@
-use Rattle.std.proofs.Common.{arith, length}
+use Rattle.std.proofs.Common.{arith, length, ◌≡◌, ◌+◌, ◌*◌, ◌<◌, ◌≤◌, ℕ, suc, mul-le-mul_right}
 use Rattle.cms_model.specs.Lists.{cut}
 use Rattle.cms_held.specs.Systems.{block_writes}
 use Rattle.cms_held.proofs.PiecesWritten.{piece_at}
@@ -39,3 +39,22 @@ returns g c =
       writes = all_made (show c.args.world.now) (show c.loop-nth.world) t (block_writes c.args.blocks.now (cut (length c.args.blocks.now) t.bsize c.args.bytes.now)) c.loop-nth.nth
           (omega arith) c.loop-nth.invariant.writes;
     }
+
+-- the bytes of a block are some of all
+piece_within : (nth count size bsize bytes : ℕ) → nth < count → size ≡ bsize → bytes ≡ count * bsize → nth * size + size ≤ bytes
+piece_within nth count size bsize bytes less same all = let wide : suc nth * bsize ≤ count * bsize = mul-le-mul_right bsize less in rw same (omega (arith, wide, all))
+
+front_within : (a b : ℕ) → a ≤ a + b
+front_within a b = omega arith
+
+pub bounds-blocks-nth : goal.bounds-blocks-nth
+bounds-blocks-nth g c = c.loop-nth-test.true
+
+pub slice_bounds-write_block-count : goal.slice_bounds-write_block-count
+slice_bounds-write_block-count g c = front_within (c.loop-nth.nth * c.bytes-size.result) c.bytes-size.result
+
+pub slice_bounds-write_block-start : goal.slice_bounds-write_block-start
+slice_bounds-write_block-start g c = front_within (c.loop-nth.nth * c.bytes-size.result) c.bytes-size.result
+
+pub slice_bounds-write_block-end : goal.slice_bounds-write_block-end
+slice_bounds-write_block-end g c = piece_within c.loop-nth.nth _ _ _ _ c.loop-nth-test.true c.bytes-size.ensures.value c.requires.long

@@ -13,7 +13,6 @@ use Rattle.cms_held.specs.Systems.{Systems, directory_piece}
 use Rattle.cms_edf.specs.Doubts.{IsReady}
 use Rattle.cms_edf.proofs.NodesKept.{all_at}
 use Rattle.cms_edf.proofs.Planned.{allotted_bits, directory_may, is_ready}
-use Rattle.cms_edf.proofs.Exits.{ok_at_err}
 use Rattle.cms_model.specs.DirectoryParts.{directory_count}
 use Rattle.cms_edf.proofs.change_plan.fill_systems.Goals as goal
 
@@ -28,11 +27,11 @@ invariant_of-result c =
     let v = c.args.held.now.volume in
     let a = c.args.allotment in
     let s : Systems = record {
-      label = c.in_ok-new.new.label;
-      label_bytes = c.in_ok-new.new.bytes.items;
+      label = c.in-Ok-relabel.new.label;
+      label_bytes = c.in-Ok-relabel.new.bytes.items;
       directory = a.directory.tree;
       directory_part = a.directory.part;
-      directory_bytes = c.in_ok-directory_bytes.directory_bytes.items;
+      directory_bytes = c.in-Ok.directory_bytes.items;
       map = a.map_tree;
       map_part = a.map_part;
       bits = a.map;
@@ -40,7 +39,7 @@ invariant_of-result c =
     let size = ap (λ (h : Held). h.volume.disk.bsize) c.held.view_is in
     let total = ap (λ (h : Held). h.volume.label.blocks) c.held.view_is in
     let places : c.deref.result.now ≡ a.directory.part.leaves = search rules in
-    let label = c.in_ok-new.ensures.label ∙ c.label_for.ensures.label in
+    let label = c.in-Ok-relabel.ensures.label ∙ c.label_for.ensures.label in
     subst (λ (n : ℕ). IsReady n s) (sym size)
     (is_ready v c.args.exchange.now a c.args.entries.now s
     (record {
@@ -50,12 +49,12 @@ invariant_of-result c =
       enough = c.requires.enough;
       allotted = c.requires.allotted;
       label = ap (λ (l : Label). l.blocks) label ∙ total;
-      label_long = c.in_ok-new.ensures.long;
+      label_long = c.in-Ok-relabel.ensures.long;
       directory_is = refl;
       directory_part_is = refl;
       map_is = refl;
       map_part_is = refl;
-      directory_long = c.in_ok-directory_bytes.ensures.long ∙ (ap (λ (l : List ℕ). length l * c.held.inside.bsize) places ∙ ap (λ (n : ℕ). length a.directory.part.leaves * n) size);
+      directory_long = c.in-Ok.ensures.long ∙ (ap (λ (l : List ℕ). length l * c.held.inside.bsize) places ∙ ap (λ (n : ℕ). length a.directory.part.leaves * n) size);
     }))
 
 -- the data blocks of the directory that are written are some of it
@@ -74,11 +73,11 @@ returns c =
     let v = c.args.held.now.volume in
     let a = c.args.allotment in
     let s : Systems = record {
-      label = c.in_ok-new.new.label;
-      label_bytes = c.in_ok-new.new.bytes.items;
+      label = c.in-Ok-relabel.new.label;
+      label_bytes = c.in-Ok-relabel.new.bytes.items;
       directory = a.directory.tree;
       directory_part = a.directory.part;
-      directory_bytes = c.in_ok-directory_bytes.directory_bytes.items;
+      directory_bytes = c.in-Ok.directory_bytes.items;
       map = a.map_tree;
       map_part = a.map_part;
       bits = a.map;
@@ -93,19 +92,13 @@ returns c =
       map_part_is = refl;
       bits_are = refl;
       systems = record {
-        label = c.in_ok-new.ensures.label ∙ (c.label_for.ensures.label ∙ ap (λ (l : Label). label_for l a.map) old);
-        label_bytes = c.in_ok-new.ensures.bytes ∙ ap (λ (l : Label). with_label l v.label_bytes) (sym c.in_ok-new.ensures.label);
-        label_long = c.in_ok-new.ensures.long;
-        directory_bytes = c.in_ok-directory_bytes.ensures.bytes s refl refl ∙ (λ i. concat (map (directory_piece (size i) s c.args.entries.now c.args.stamp.now) (places i)));
+        label = c.in-Ok-relabel.ensures.label ∙ (c.label_for.ensures.label ∙ ap (λ (l : Label). label_for l a.map) old);
+        label_bytes = c.in-Ok-relabel.ensures.bytes ∙ ap (λ (l : Label). with_label l v.label_bytes) (sym c.in-Ok-relabel.ensures.label);
+        label_long = c.in-Ok-relabel.ensures.long;
+        directory_bytes = c.in-Ok.ensures.bytes s refl refl ∙ (λ i. concat (map (directory_piece (size i) s c.args.entries.now c.args.stamp.now) (places i)));
         back = c.requires.back;
       };
     }
-
-pub returns-in_err-directory_bytes : goal.returns-in_err-directory_bytes
-returns-in_err-directory_bytes c = ok_at_err _ c.from_residual.result _ c.from_residual.ensures.1
-
-pub returns-in_err-new : goal.returns-in_err-new
-returns-in_err-new c = ok_at_err _ c.from_residual-in_err-new.result _ c.from_residual-in_err-new.ensures.1
 
 pub directory_bytes-requires-clause-stamp : goal.directory_bytes-requires-clause-stamp
 directory_bytes-requires-clause-stamp c = c.requires.stamp

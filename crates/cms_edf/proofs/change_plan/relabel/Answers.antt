@@ -1,7 +1,8 @@
-use Rattle.std.proofs.Common.{ℕ, List, ◌++◌, length, ap, ◌∙◌, arith, ◌≡◌, drop, refl, rules, subst}
+use Rattle.std.proofs.Common.{length, ap, sym, ◌∙◌, arith, ◌≡◌, drop, refl, subst}
 use Rattle.cms_edf.proofs.Exits.{ok_at_err}
 use Rattle.std.proofs.lemmas.List.{take_at}
 use Rattle.cms_journal.specs.Journal.{IsBlockSize}
+use Rattle.cms_journal.proofs.Sizes.{block_bounds}
 use Rattle.cms_fields.specs.Labels.{with_label}
 use Rattle.cms_held.specs.HeldVolumes.{Held}
 use Rattle.cms_edf.proofs.change_plan.relabel.Goals as goal
@@ -10,11 +11,10 @@ use Rattle.cms_edf.proofs.change_plan.relabel.Goals as goal
 pub write_label-requires : goal.write_label-requires
 write_label-requires c =
     let long = c.held.invariant.kept.label_long in
-    let least = c.bytes.ensures.least in
-    let value = c.bytes.ensures.value in
-    let copy = c.in_ok-extend_from_slice.ensures.items ∙ ap (λ (l : List ℕ). l ++ c.deref.result.now) c.in_ok-bytes.ensures.items in
+    let copy = c.in_ok-bytes.ensures.items_if_clones_equal (λ x y e. e) in
     let whole = ap length (c.as_mut_slice.ensures.value ∙ (copy ∙ c.deref.ensures.value)) in
-    omega arith
+    let low = (block_bounds c.held.inside.bsize c.held.invariant.kept.sized).0 in
+    omega (arith, long, low, whole)
 
 pub returns-in_err-bytes-clause-label : goal.returns-in_err-bytes-clause-label
 returns-in_err-bytes-clause-label c = ok_at_err _ c.from_residual.result _ c.from_residual.ensures.1
@@ -28,36 +28,24 @@ returns-in_err-bytes-clause-long c = ok_at_err _ c.from_residual.result _ c.from
 pub returns-in_err-bytes-clause-size : goal.returns-in_err-bytes-clause-size
 returns-in_err-bytes-clause-size c = ok_at_err _ c.from_residual.result _ c.from_residual.ensures.1
 
-pub returns-in_err-extend_from_slice-clause-label : goal.returns-in_err-extend_from_slice-clause-label
-returns-in_err-extend_from_slice-clause-label c = ok_at_err _ c.from_residual-in_err-extend_from_slice.result _ c.from_residual-in_err-extend_from_slice.ensures.1
-
-pub returns-in_err-extend_from_slice-clause-bytes : goal.returns-in_err-extend_from_slice-clause-bytes
-returns-in_err-extend_from_slice-clause-bytes c = ok_at_err _ c.from_residual-in_err-extend_from_slice.result _ c.from_residual-in_err-extend_from_slice.ensures.1
-
-pub returns-in_err-extend_from_slice-clause-long : goal.returns-in_err-extend_from_slice-clause-long
-returns-in_err-extend_from_slice-clause-long c = ok_at_err _ c.from_residual-in_err-extend_from_slice.result _ c.from_residual-in_err-extend_from_slice.ensures.1
-
-pub returns-in_err-extend_from_slice-clause-size : goal.returns-in_err-extend_from_slice-clause-size
-returns-in_err-extend_from_slice-clause-size c = ok_at_err _ c.from_residual-in_err-extend_from_slice.result _ c.from_residual-in_err-extend_from_slice.ensures.1
-
 pub returns-clause-label : goal.returns-clause-label
 returns-clause-label c = refl
 
 pub returns-clause-bytes : goal.returns-clause-bytes
 returns-clause-bytes c =
-    let bytes = c.extend_from_slice.new.self in
+    let bytes = c.in_ok-bytes.bytes in
     let new = c.write_label.new.into in
-    let copy = c.in_ok-extend_from_slice.ensures.items ∙ ap (λ (l : List ℕ). l ++ c.deref.result.now) c.in_ok-bytes.ensures.items in
-    let all : length new ≡ bytes.len = search rules in
+    let copy = c.in_ok-bytes.ensures.items_if_clones_equal (λ x y e. e) in
+    let all : length new ≡ bytes.len = c.write_label.auto.into ∙ (ap length c.as_mut_slice.ensures.value ∙ sym bytes.ok.0) in
     take_at new (drop (length new) bytes.items) bytes.len all
     ∙ (c.write_label.ensures.written ∙ ap (with_label c.args.label) (c.as_mut_slice.ensures.value ∙ (copy ∙ (c.deref.ensures.value ∙ ap (λ (h : Held). h.volume.label_bytes) c.held.view_is))))
 
 pub returns-clause-long : goal.returns-clause-long
 returns-clause-long c =
-    let bytes = c.extend_from_slice.new.self in
+    let bytes = c.in_ok-bytes.bytes in
     let new = c.write_label.new.into in
-    let copy = c.in_ok-extend_from_slice.ensures.items ∙ ap (λ (l : List ℕ). l ++ c.deref.result.now) c.in_ok-bytes.ensures.items in
-    let all : length new ≡ bytes.len = search rules in
+    let copy = c.in_ok-bytes.ensures.items_if_clones_equal (λ x y e. e) in
+    let all : length new ≡ bytes.len = c.write_label.auto.into ∙ (ap length c.as_mut_slice.ensures.value ∙ sym bytes.ok.0) in
     ap length (take_at new (drop (length new) bytes.items) bytes.len all)
     ∙ (c.write_label.auto.into ∙ (ap length (c.as_mut_slice.ensures.value ∙ (copy ∙ c.deref.ensures.value)) ∙ (c.held.invariant.kept.label_long ∙ ap (λ (h : Held). h.volume.disk.bsize) c.held.view_is)))
 

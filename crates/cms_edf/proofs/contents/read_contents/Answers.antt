@@ -31,6 +31,10 @@ index_at entries nth k e same is = subst (λ (n : ℕ). e ≡ get_or entries n e
 less_of : (k trees entries : ℕ) → k < trees → trees ≡ entries → k < entries
 less_of k trees entries less same = omega arith
 
+-- faults of more reads are no fewer
+later_than : (a b c : ℕ) → a ≤ b → b ≤ c → a ≤ c
+later_than a b c later last = omega arith
+
 less_at : (nth k n : ℕ) → k < n → (trees entries : ℕ) → n ≡ trees → trees ≡ entries → k < entries
 less_at nth k n less trees entries a b = omega arith
 
@@ -56,10 +60,10 @@ read_sizes-requires-clause-count g c =
     let steps : into_iter_items l.tree-iterator ≡ c.in-Some.tree ∷ into_iter_items c.next.new.self = c.in-Some.ensures.steps.0 in
     let item = taken_is l.yielded c.in-Some.tree (into_iter_items c.next.new.self) c.args.trees.items (ap (λ (r : List Walked). l.yielded ++ r) (sym steps) ∙ (l.invariant.trees ∙ gives)) in
     let many = l.invariant.many in
-    let nth : c.len-nth.result ≡ k = search rules in
+    let nth : c.len-nth.result ≡ k = c.len-nth.ensures.len ∙ l.invariant.many in
     let count = c.requires.count in
-    let leaves : c.deref.result.now ≡ c.in-Some.tree.leaves.items = search rules in
-    ap length leaves ∙ count_at c.args.place.now.bsize c.args.entries.now c.args.trees.items k c.index-entries-nth.result c.in-Some.tree c.requires.counts (omega (arith, item.0, count)) item.0
+    let leaves : c.deref.result.now ≡ c.in-Some.tree.leaves.items = c.deref.ensures.value in
+    ap length leaves ∙ count_at c.args.place.now.bsize c.args.entries.now c.args.trees.items k c.index-entries-nth.result c.in-Some.tree c.requires.counts (less_of _ _ _ item.0 count) item.0
     (index_at c.args.entries.now c.len-nth.result k c.index-entries-nth.result nth c.index-entries-nth.is) item.1
 
 pub read_sizes-requires-clause-blocks : goal.read_sizes-requires-clause-blocks
@@ -69,7 +73,7 @@ read_sizes-requires-clause-blocks g c = λ j told at less.
     let gives = c.into_iter-tree-iterator.ensures.into_iter_gives.0 in
     let steps : into_iter_items l.tree-iterator ≡ c.in-Some.tree ∷ into_iter_items c.next.new.self = c.in-Some.ensures.steps.0 in
     let item = taken_is l.yielded c.in-Some.tree (into_iter_items c.next.new.self) c.args.trees.items (ap (λ (r : List Walked). l.yielded ++ r) (sym steps) ∙ (l.invariant.trees ∙ gives)) in
-    let leaves : c.deref.result.now ≡ c.in-Some.tree.leaves.items = search rules in
+    let leaves : c.deref.result.now ≡ c.in-Some.tree.leaves.items = c.deref.ensures.value in
     let within : IsWithin c.args.place.now.total None c.in-Some.tree = subst (IsWithin c.args.place.now.total None) (sym item.1) (c.requires.within k c.in-Some.tree item.0) in
     plain_block j c.args.place.now.unit c.args.place.now.total c.args.place.now.bsize c.in-Some.tree c.deref.result.now at leaves less within (c.requires.blocks j (sym l.invariant.told ∙ told))
 
@@ -82,12 +86,12 @@ insert-requires g c =
     let steps : into_iter_items l.tree-iterator ≡ c.in-Some.tree ∷ into_iter_items c.next.new.self = c.in-Some.ensures.steps.0 in
     let item = taken_is l.yielded c.in-Some.tree (into_iter_items c.next.new.self) a.trees.items (ap (λ (r : List Walked). l.yielded ++ r) (sym steps) ∙ (l.invariant.trees ∙ gives)) in
     let many = l.invariant.many in
-    let nth : c.len-nth.result ≡ k = search rules in
+    let nth : c.len-nth.result ≡ k = c.len-nth.ensures.len ∙ l.invariant.many in
     let count = c.requires.count in
     let at = index_at a.entries.now c.len-nth.result k c.index-entries-nth.result nth c.index-entries-nth.is in
     let name_is : c.file_of.result.entry.name ≡ c.index-entries-nth.result.name = ap (λ (f : HeldFile). f.entry.name) c.file_of.ensures.is in
     let keys_are = ap keys_of l.invariant.named ∙ (keys_named (values l.files) ∙ l.invariant.names) in
-    record { new = rw (name_is, keys_are) (name_is_new a.entries.now k c.index-entries-nth.result c.requires.names (omega (arith, item.0, count)) at) }
+    record { new = rw (name_is, keys_are) (name_is_new a.entries.now k c.index-entries-nth.result c.requires.names (less_of _ _ _ item.0 count) at) }
 
 pub returns-in-Err-clause-fault : goal.returns-in-Err-clause-fault
 returns-in-Err-clause-fault g c = λ j told.
@@ -97,12 +101,12 @@ returns-in-Err-clause-fault g c = λ j told.
     let gives = c.into_iter-tree-iterator.ensures.into_iter_gives.0 in
     let steps : into_iter_items l.tree-iterator ≡ c.in-Some.tree ∷ into_iter_items c.next.new.self = c.in-Some.ensures.steps.0 in
     let item = taken_is l.yielded c.in-Some.tree (into_iter_items c.next.new.self) a.trees.items (ap (λ (r : List Walked). l.yielded ++ r) (sym steps) ∙ (l.invariant.trees ∙ gives)) in
-    let nth : c.len-nth.result ≡ k = search rules in
+    let nth : c.len-nth.result ≡ k = c.len-nth.ensures.len ∙ l.invariant.many in
     let count = c.requires.count in
-    let leaves : c.deref.result.now ≡ c.in-Some.tree.leaves.items = search rules in
+    let leaves : c.deref.result.now ≡ c.in-Some.tree.leaves.items = c.deref.ensures.value in
     let image = image_of (contents_of j a.place.now.unit) in
     contents_bad a.place.now.bsize image a.entries.now a.trees.items k (c.len-nth.result + 2) c.index-entries-nth.result c.in-Some.tree c.deref.result.now (values l.files) c.in-Err.fault
-    (omega (arith, item.0, count)) (index_at a.entries.now c.len-nth.result k c.index-entries-nth.result nth c.index-entries-nth.is) item.0 item.1 (omega (arith, nth)) leaves
+    (less_of _ _ _ item.0 count) (index_at a.entries.now c.len-nth.result k c.index-entries-nth.result nth c.index-entries-nth.is) item.0 item.1 (ap (λ (n : ℕ). n + 2) nth) leaves
     (c.in-Err.ensures.fault j (l.invariant.told ∙ told))
     (subst (λ (ws : List Walked). ContentsTo a.place.now.bsize image a.entries.now ws k (values l.files)) gives (l.invariant.contents j told))
 
@@ -114,18 +118,18 @@ loop-tree-preserved g c =
     let gives = c.into_iter-tree-iterator.ensures.into_iter_gives.0 in
     let steps : into_iter_items l.tree-iterator ≡ c.in-Some.tree ∷ into_iter_items c.next.new.self = c.in-Some.ensures.steps.0 in
     let item = taken_is l.yielded c.in-Some.tree (into_iter_items c.next.new.self) a.trees.items (ap (λ (r : List Walked). l.yielded ++ r) (sym steps) ∙ (l.invariant.trees ∙ gives)) in
-    let nth : c.len-nth.result ≡ k = search rules in
+    let nth : c.len-nth.result ≡ k = c.len-nth.ensures.len ∙ l.invariant.many in
     let count = c.requires.count in
     let many = l.invariant.many in
-    let leaves : c.deref.result.now ≡ c.in-Some.tree.leaves.items = search rules in
+    let leaves : c.deref.result.now ≡ c.in-Some.tree.leaves.items = c.deref.ensures.value in
     let one : length (l.yielded ++ (c.in-Some.tree ∷ [])) ≡ k + 1 = length_push l.yielded c.in-Some.tree in
-    let grown : c.insert.new.files.entries ≡ l.files.entries ++ ((c.file_of.result.entry.name, c.file_of.result) ∷ []) = search rules in
+    let grown = c.in_ok-insert.ensures.ok in
     let values_are = values_next l.files.entries c.insert.new.files.entries c.file_of.result grown in
     let was = l.invariant.len in
     let gone = c.in-Some.ensures.steps.1 in
     let short = ap length steps in
     let at = index_at a.entries.now c.len-nth.result k c.index-entries-nth.result nth c.index-entries-nth.is in
-    let less : k < length a.entries.now = omega (arith, item.0, count) in
+    let less : k < length a.entries.now = less_of _ _ _ item.0 count in
     let name_is : c.file_of.result.entry.name ≡ c.index-entries-nth.result.name = ap (λ (f : HeldFile). f.entry.name) c.file_of.ensures.is in
     let sizes = c.in-Ok.ensures in
     record {
@@ -138,7 +142,7 @@ loop-tree-preserved g c =
           (subst (λ (ws : List Walked). ContentsTo a.place.now.bsize image a.entries.now ws (k + 1) (values l.files ++ (c.file_of.result ∷ []))) (sym gives)
           (contents_next a.place.now.bsize image a.entries.now a.trees.items k (c.len-nth.result + 2) c.index-entries-nth.result c.in-Some.tree c.deref.result.now c.in-Ok.told
           (values l.files) c.file_of.result
-          less at item.0 item.1 (omega (arith, nth)) leaves c.file_of.ensures.is
+          less at item.0 item.1 (ap (λ (n : ℕ). n + 2) nth) leaves c.file_of.ensures.is
           (sizes.read j (l.invariant.told ∙ told))
           (subst (λ (ws : List Walked). ContentsTo a.place.now.bsize image a.entries.now ws k (values l.files)) gives (l.invariant.contents j told))));
       named = named_next l.files.entries c.insert.new.files.entries c.file_of.result grown l.invariant.named;
@@ -161,7 +165,7 @@ loop-tree-preserved g c =
           sizes.sized
           (subst (λ (l : List ℕ). EndsIn a.place.now.bsize (length l) c.in-Ok.told.sizes.stored) leaves sizes.ends)));
       told = sizes.reads.told ∙ l.invariant.told;
-      faults = omega (arith, sizes.reads.faults, l.invariant.faults);
+      faults = later_than _ _ _ l.invariant.faults sizes.reads.faults;
       edges = sizes.reads.edges ∙ l.invariant.edges;
     }
 
@@ -204,7 +208,7 @@ read_sizes-requires-clause-size g c =
     let steps : into_iter_items l.tree-iterator ≡ c.in-Some.tree ∷ into_iter_items c.next.new.self = c.in-Some.ensures.steps.0 in
     let item = taken_is l.yielded c.in-Some.tree (into_iter_items c.next.new.self) a.trees.items (ap (λ (r : List Walked). l.yielded ++ r) (sym steps) ∙ (l.invariant.trees ∙ gives)) in
     let many = l.invariant.many in
-    let nth : c.len-nth.result ≡ k = search rules in
+    let nth : c.len-nth.result ≡ k = c.len-nth.ensures.len ∙ l.invariant.many in
     let at = index_at a.entries.now c.len-nth.result k c.index-entries-nth.result nth c.index-entries-nth.is in
     subst (HasSize a.place.now.bsize) (sym at) (c.requires.sizes k c.index-entries-nth.result (less_of k (length a.trees.items) (length a.entries.now) item.0 c.requires.count))
 

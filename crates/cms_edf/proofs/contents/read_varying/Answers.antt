@@ -12,7 +12,7 @@ returns-in_err-feed-clause-fault g c =
     let l = c.loop-nth in
     let a = c.args in
     let p = err_from_is_err_and c.from_residual-in_err-feed.result c.from_residual-in_err-feed.ensures.1 in
-    let taken : c.deref.result.now ≡ c.in_ok-block.block.items = search rules in
+    let taken : c.deref.result.now ≡ c.in_ok-block.block.items = c.deref.ensures.value in
     rw (p.1, p.2) (λ j told.
     takes_bad (image_of (contents_of j a.place.now.unit)) a.leaves.now l.nth a.count a.number a.place.now.bsize l.scan c.deref.result.now c.in_err-feed.field-0.0 (search rules)
     (taken ∙ c.in_ok-block.ensures.bytes j (l.invariant.told ∙ told)) l.invariant.bsize c.in_err-feed.ensures.fault (l.invariant.takes j told))
@@ -21,7 +21,7 @@ pub loop-nth-preserved : goal.loop-nth-preserved
 loop-nth-preserved g c =
     let l = c.loop-nth in
     let a = c.args in
-    let taken : c.deref.result.now ≡ c.in_ok-block.block.items = search rules in
+    let taken : c.deref.result.now ≡ c.in_ok-block.block.items = c.deref.ensures.value in
     let was = l.invariant.fed in
     let grown = c.in_ok-feed.ensures.count in
     let long = ap length taken ∙ c.in_ok-block.ensures.size in

@@ -80,3 +80,6 @@ returns-in-Some-passed_limit-clause-volume c = refl
 
 pub returns-clause-spare : goal.returns-clause-spare
 returns-clause-spare c = on_any c.plan_file.result c.in-Ok.ensures.spare
+
+pub returns-in_default-reserve-clause-refused : goal.returns-in_default-reserve-clause-refused
+returns-in_default-reserve-clause-refused c = tt

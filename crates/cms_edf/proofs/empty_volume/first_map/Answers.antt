@@ -109,3 +109,25 @@ returns-in_err-tree_in-clause-bits c = ok_at_err _ c.from_residual-in_err-tree_i
 
 pub returns-in_err-tree_in-clause-used : goal.returns-in_err-tree_in-clause-used
 returns-in_err-tree_in-clause-used c = ok_at_err _ c.from_residual-in_err-tree_in.result _ c.from_residual-in_err-tree_in.ensures.1
+
+-- the pointer blocks are those behind the data blocks
+rest_is : (leaves nodes pointers all : ℕ) → leaves + nodes ≡ all → all ≡ leaves + pointers → nodes ≡ pointers
+rest_is leaves nodes pointers all sum is = omega arith
+
+part_within : (leaves pointers all : ℕ) → all ≡ leaves + pointers → leaves ≤ all
+part_within leaves pointers all is = omega arith
+
+pub tree_in-requires : goal.tree_in-requires
+tree_in-requires c = part_within _ c.shape.result.pointers _ (ap (λ (l : List ℕ). length l) c.deref.ensures.value ∙ c.in_ok-taken.ensures.long)
+
+pub returns-clause-count : goal.returns-clause-count
+returns-clause-count c =
+    let leaves = map_rounded c.div_ceil-data.result c.div_ceil.result c.args.total c.bytes.result c.div_ceil-data.ensures c.div_ceil.ensures c.bytes.ensures.least in
+    c.in_ok-tree_in.ensures.count ∙ (leaves ∙ ap (up (up c.args.total 8)) c.bytes.ensures.value)
+
+pub returns-clause-nodes : goal.returns-clause-nodes
+returns-clause-nodes c =
+    let size = c.bytes-2.ensures.value in
+    let count = c.in_ok-tree_in.ensures.count in
+    rest_is _ _ c.shape.result.pointers _ c.in_ok-tree_in.ensures.pointers (ap (λ (l : List ℕ). length l) c.deref.ensures.value ∙ c.in_ok-taken.ensures.long)
+    ∙ (c.shape.ensures.pointers ∙ (λ i. pointer_count (size i / 4) (sym count i)))

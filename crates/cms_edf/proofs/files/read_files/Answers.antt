@@ -1,4 +1,4 @@
-use Rattle.std.proofs.Common.{rules, ◌≡◌, ◌++◌, ◌∷◌, ◌+◌, [], None, ℕ, ◌∙◌, ap, arith, sym}
+use Rattle.std.proofs.Common.{rules, ◌+◌, None, ℕ, ◌∙◌, ap, arith, sym}
 use Rattle.std.proofs.lemmas.List.{length_push}
 use Rattle.std.proofs.lemmas.List.Elements.{All-push}
 use Rattle.std.proofs.lemmas.Result.{err_from_is_err_and}
@@ -23,7 +23,7 @@ pub loop-nth-preserved : goal.loop-nth-preserved
 loop-nth-preserved g c =
     let l = c.loop-nth in
     let a = c.args in
-    let grown : c.push.new.into.items ≡ l.trees.items ++ (c.in_ok-tree.tree ∷ []) = search rules in
+    let grown = c.in_ok-push.ensures.ok in
     record {
       files = λ j told. rw grown (files_next a.place.now (image_of (contents_of j a.place.now.unit)) a.leaves.now a.entries.now l.nth c.holder_of-holder.result c.index-entries-nth.result l.trees.items
           c.in_ok-tree.tree

@@ -290,3 +290,6 @@ returns-clause-spare g c = c.in-Ok.ensures.spare
 
 pub plan_growth-requires-clause-stamp : goal.plan_growth-requires-clause-stamp
 plan_growth-requires-clause-stamp g c = c.requires.stamp
+
+pub returns-in_default-reserve-clause-refused : goal.returns-in_default-reserve-clause-refused
+returns-in_default-reserve-clause-refused g c = λ f at. tt

@@ -1,4 +1,4 @@
-use Rattle.std.proofs.Common.{rules, ◌≡◌, ◌++◌, ◌-◌, ◌%◌, ◌<◌, ◌≤◌, ℕ, zero, suc, List, length, take, drop, replicate, get_or, refl, sym, ◌∙◌, ap, subst, arith, mod-lt}
+use Rattle.std.proofs.Common.{◌≡◌, ◌++◌, ◌-◌, ◌%◌, ◌<◌, ◌≤◌, ℕ, zero, suc, List, length, take, drop, replicate, get_or, refl, sym, ◌∙◌, ap, subst, arith, mod-lt}
 use Rattle.std.specs.Prelude.{slice_index}
 use Rattle.std.proofs.lemmas.List.{take_at}
 use Rattle.cms_journal.specs.Journal.{HasBlock, block_of, contents_of}
@@ -34,7 +34,7 @@ returns-clause-bytes g c = λ j told more.
     let value : c.deref_mut.result.now ≡ items = c.deref_mut.ensures.value in
     let cut : c.clear_behind.new.bytes ≡ take r items ++ replicate (length items - r) 0 = c.clear_behind.ensures ∙ (λ i. take (rest i) (value i) ++ replicate (length (value i) - rest i) 0) in
     let low : r < v.disk.bsize = mod-lt a.file.now.size some in
-    let all : length c.clear_behind.new.bytes ≡ c.in_ok-block.block.len = search rules in
+    let all : length c.clear_behind.new.bytes ≡ c.in_ok-block.block.len = c.clear_behind.auto.bytes ∙ (ap (λ (l : List ℕ). length l) c.deref_mut.ensures.value ∙ sym c.in_ok-block.block.ok.0) in
     take_at c.clear_behind.new.bytes (drop (length c.clear_behind.new.bytes) items) c.in_ok-block.block.len all
     ∙ (cut ∙ (cleared v.disk.bsize r items long (omega arith) ∙ ap (λ (l : List ℕ). filled v.disk.bsize (take r l)) image))
 
@@ -110,3 +110,48 @@ read_block-requires g c = λ j told.
     subst (λ (u : ℕ). HasBlock j.units u (get_or c.leaves.result.now a.kept 0) c.bytes-bsize.result) (sym unit)
     (subst (λ (n : ℕ). HasBlock j.units v.unit n c.bytes-bsize.result) (sym leaf)
     (subst (λ (b : ℕ). HasBlock j.units v.unit (slice_index leaves a.kept) b) (sym bytes) (c.requires.blocks j told a.kept less)))
+
+less_none : (n : ℕ) → n ≡ n - 0
+less_none n = omega arith
+
+some_size : (n : ℕ) → 512 ≤ n → 0 < n
+some_size n least = omega arith
+
+-- the part of a block is within it
+part_fits : (size bytes long : ℕ) → 512 ≤ bytes → long ≡ bytes → size % bytes ≤ long
+part_fits size bytes long least is = let low : size % bytes < bytes = mod-lt size (some_size bytes least) in omega (arith, low, is)
+
+pub nonzero_rem-filled : goal.nonzero_rem-filled
+nonzero_rem-filled g c = some_size _ c.bytes-bsize.ensures.least
+
+pub returns-then-filled-eq0-clause-zeros : goal.returns-then-filled-eq0-clause-zeros
+returns-then-filled-eq0-clause-zeros g c = λ none.
+    c.in-Ok.ensures.items_if_clones_equal (λ y is. is)
+    ∙ ap (λ (n : ℕ). replicate n 0) (c.bytes-bsize.ensures.value ∙ (ap (λ (h : Held). h.volume.disk.bsize) c.held.view_is ∙ less_none _))
+
+pub returns-then-filled-eq0-clause-long : goal.returns-then-filled-eq0-clause-long
+returns-then-filled-eq0-clause-long g c =
+    sym c.in-Ok.block.ok.0 ∙ (c.in-Ok.ensures.len ∙ (c.bytes-bsize.ensures.value ∙ ap (λ (h : Held). h.volume.disk.bsize) c.held.view_is))
+
+pub bounds-leaves-kept : goal.bounds-leaves-kept
+bounds-leaves-kept g c =
+    let a = c.args in
+    let v = a.held.now.volume in
+    let leaves = a.file.now.tree.leaves in
+    let bytes : c.bytes-bsize.result ≡ v.disk.bsize = c.bytes-bsize.ensures.value ∙ ap (λ (h : Held). h.volume.disk.bsize) c.held.view_is in
+    let rest : c.file.inside.size % c.bytes-bsize.result ≡ a.file.now.size % v.disk.bsize = (λ i. ap (λ (f : HeldFile). f.size) c.file.view_is i % bytes i) in
+    let more = some_rest _ (λ none. c.if-filled-eq0.false (rest ∙ none)) in
+    let less = rest_within v.disk.bsize a.file.now.size a.kept (length leaves) (some_bytes _ _ bytes c.bytes-bsize.ensures.least) c.requires.kept c.requires.room more in
+    subst (λ (l : List ℕ). a.kept < length l) (sym c.leaves.ensures) less
+
+pub clear_behind-requires : goal.clear_behind-requires
+clear_behind-requires g c =
+    part_fits c.file.inside.size _ _ c.bytes-bsize.ensures.least (ap (λ (l : List ℕ). length l) c.deref_mut.ensures.value ∙ (sym c.in_ok-block.block.ok.0 ∙ c.in_ok-block.ensures.size))
+
+pub returns-clause-long : goal.returns-clause-long
+returns-clause-long g c =
+    let items = c.in_ok-block.block.items in
+    let new = c.clear_behind.new.bytes in
+    let all : length new ≡ c.in_ok-block.block.len = c.clear_behind.auto.bytes ∙ (ap (λ (l : List ℕ). length l) c.deref_mut.ensures.value ∙ sym c.in_ok-block.block.ok.0) in
+    ap (λ (l : List ℕ). length l) (take_at new (drop (length new) items) c.in_ok-block.block.len all)
+    ∙ (all ∙ (c.in_ok-block.ensures.size ∙ (c.bytes-bsize.ensures.value ∙ ap (λ (h : Held). h.volume.disk.bsize) c.held.view_is)))

@@ -1,6 +1,6 @@
-use Rattle.std.proofs.Common.{◌≡◌, ◌-◌, ◌/◌, ℕ, List, [], Ok, Err, Some, None, sym, ◌∙◌, ap, subst, drop, length}
+use Rattle.std.proofs.Common.{length-drop, mul_comm, ◌≡◌, ◌-◌, ◌/◌, ℕ, List, [], Ok, Err, Some, None, sym, ◌∙◌, ap, subst, drop, length, ◌⊎◌, inl, ◌+◌, ◌*◌, ◌≤◌, refl, arith}
 use Rattle.std.proofs.lemmas.Result.{err_from_is_err_and}
-use Rattle.cms_journal.specs.Journal.{Journal, contents_of}
+use Rattle.cms_journal.specs.Journal.{Journal, contents_of, HasBlocks}
 use Rattle.cms_model.specs.Trees.{image_of, bytes_at}
 use Rattle.cms_model.specs.Lists.{cut}
 use Rattle.cms_model.specs.Sizes.{pointer_count}
@@ -11,11 +11,13 @@ use Rattle.cms_tree.specs.Walks.{tree_at, nodes_at, IsWithin}
 use Rattle.cms_tree.specs.declared.types.TreeAt.{TreeAt}
 use Rattle.cms_held.specs.HeldVolumes.{IsFaultOf}
 use Rattle.cms_edf.specs.OpeningSteps.{met_in, system_at}
-use Rattle.cms_edf.proofs.Listings.{HasEntries, HasTree, counts_are, directory_fault, tree_fault, map_fault, entries_fault, names_fault, listed_so, tree_has, leaf_block, few_files}
+use Rattle.cms_edf.proofs.Listings.{HasEntries, HasTree, counts_are, directory_fault, tree_fault, map_fault, entries_fault, names_fault, listed_so, tree_has, leaf_block, few_files, origin_block}
 use Rattle.cms_edf.proofs.Exits.{ok_at_err, other_at_err, reads_at_err, reads_at_ok, reads_then}
 use Rattle.cms_edf.proofs.EntryTests.{entries_shaped, entries_small, entries_pass, entries_stand}
 use Rattle.cms_fields.specs.declared.entry.Entry.{Entry}
 use Rattle.cms_edf.proofs.listing.read_listing.Given as given
+use Rattle.cms_fields.specs.Limits.{most_files}
+use Rattle.cms_edf.proofs.Faults.{fault_plain}
 use Rattle.cms_edf.proofs.listing.read_listing.Goals as goal
 use Rattle.cms_edf.proofs.listing.read_listing.Goals.{After-map_in, After-names_once}
 
@@ -200,3 +202,62 @@ returns-in_err-entries-clause-holds g c = ok_at_err _ c.from_residual-in_err-ent
 
 pub returns-in_err-names_once-clause-holds : goal.returns-in_err-names_once-clause-holds
 returns-in_err-names_once-clause-holds g c = ok_at_err _ c.from_residual-in_err-names_once.result _ c.from_residual-in_err-names_once.ensures.1
+
+-- the entries stand behind the first two
+entries_room : (own count blocks leaves bytes bsize rest : ℕ) → own ≡ count → 2 ≤ count → count * 64 ≤ blocks * bsize → leaves ≡ blocks → bytes ≡ bsize * leaves → rest ≡ bytes - 128
+    → (own - 2) * 64 ≤ rest
+entries_room own count blocks leaves bytes bsize rest is some fits same all behind =
+    let long : bytes ≡ blocks * bsize = all ∙ (ap (λ (n : ℕ). bsize * n) same ∙ mul_comm bsize blocks) in
+    omega (arith, is, some, fits, long, behind)
+
+few_entries : (own count : ℕ) → own ≡ count → count ≤ most_files + 2 → own - 2 ≤ most_files
+few_entries own count is few = omega (arith, is, few)
+
+pub block_of-requires : goal.block_of-requires
+block_of-requires g c = λ j told. origin_block j c.args.place.now.unit c.args.place.now.total c.args.place.now.origin c.args.place.now.bsize c.requires.total c.requires.origin (c.requires.blocks j told)
+
+pub returns-in_err-first-clause-read : goal.returns-in_err-first-clause-read
+returns-in_err-first-clause-read g c = λ j told.
+    let p = err_from_is_err_and c.from_residual.result c.from_residual.ensures.1 in
+    rw (p.1, p.2) (fault_plain _ c.in_err-first.field-0.0 c.in_err-first.ensures.fault)
+
+pub returns-in_err-bytes-clause-read : goal.returns-in_err-bytes-clause-read
+returns-in_err-bytes-clause-read g c = λ j told.
+    let p = err_from_is_err_and c.from_residual-in_err-bytes.result c.from_residual-in_err-bytes.ensures.1 in
+    rw (p.1, p.2) (fault_plain _ c.in_err-bytes.field-0.0 c.in_err-bytes.ensures.fault)
+
+pub tree_of-requires-clause-some : goal.tree_of-requires-clause-some
+tree_of-requires-clause-some g c = subst (λ (x : TreeAt). 1 ≤ x.count) (sym c.system_at-at.ensures) c.in_ok-directory.ensures.shape.0
+
+pub tree_of-requires-clause-psize : goal.tree_of-requires-clause-psize
+tree_of-requires-clause-psize g c = subst (λ (x : TreeAt). (x.psize ≡ 4) ⊎ (x.psize ≡ 12)) (sym c.system_at-at.ensures) (inl refl)
+
+pub tree_of-requires-clause-blocks : goal.tree_of-requires-clause-blocks
+tree_of-requires-clause-blocks g c = λ j told.
+    subst (λ (x : TreeAt). HasBlocks j.units x.unit x.volume x.bsize) (sym c.system_at-at.ensures) (c.requires.blocks j (sym c.in_ok-first.ensures.reads.told ∙ told))
+
+pub directory_bytes-requires-clause-first : goal.directory_bytes-requires-clause-first
+directory_bytes-requires-clause-first g c = λ j told. c.deref-4.ensures.value ∙ c.in_ok-first.ensures.bytes j (sym c.in_ok-first.ensures.reads.told ∙ (sym c.in_ok-walked.ensures.reads.told ∙ told))
+
+pub directory_bytes-requires-clause-size : goal.directory_bytes-requires-clause-size
+directory_bytes-requires-clause-size g c = ap (λ (l : List ℕ). length l) c.deref-4.ensures.value ∙ c.in_ok-first.ensures.size
+
+some_total : (n : ℕ) → 6 ≤ n → 1 ≤ n
+some_total n some = omega arith
+
+pub map_in-requires-clause-some : goal.map_in-requires-clause-some
+map_in-requires-clause-some g c = some_total _ c.requires.total
+
+pub overflow_sub-directory-inside : goal.overflow_sub-directory-inside
+overflow_sub-directory-inside g c = subst (λ (n : ℕ). 2 ≤ n) (sym (ap (λ (d : SystemFile). d.count) c.directory.view_is)) c.in_ok-directory.ensures.count.0
+
+pub entries_of-requires-clause-long : goal.entries_of-requires-clause-long
+entries_of-requires-clause-long g c =
+    entries_room c.directory.inside.count c.in_ok-directory.directory.count c.in_ok-directory.directory.blocks (length c.in_ok-walked.walked.leaves.items) (length c.in_ok-bytes.bytes.items) c.args.place.now.bsize _
+    (ap (λ (d : SystemFile). d.count) c.directory.view_is) c.in_ok-directory.ensures.count.0 c.in_ok-directory.ensures.count.2
+    (c.in_ok-walked.ensures.count ∙ ap (λ (x : TreeAt). x.count) c.system_at-at.ensures)
+    (c.in_ok-bytes.ensures.size ∙ ap (λ (l : List ℕ). c.args.place.now.bsize * length l) c.deref-3.ensures.value)
+    (ap (λ (l : List ℕ). length l) (c.after-2.ensures.bytes ∙ ap (drop 128) c.deref-5.ensures.value) ∙ length-drop 128 c.in_ok-bytes.bytes.items)
+
+pub entries_of-requires-clause-few : goal.entries_of-requires-clause-few
+entries_of-requires-clause-few g c = few_entries c.directory.inside.count c.in_ok-directory.directory.count (ap (λ (d : SystemFile). d.count) c.directory.view_is) c.in_ok-directory.ensures.count.1

@@ -2,6 +2,7 @@
 use Rattle.std.proofs.Common.{◌≡◌, ◌∙◌, ◌<◌, ◌≤◌, ◌++◌, ◌∷◌, [], ◌-◌, ℕ, List, length, drop, get_or, ap, sym, append-nil, length-drop, rules, arith}
 use Rattle.std.proofs.lemmas.List.{take_all}
 use Rattle.cms_edf.proofs.LeftLeaves.{at_passed, at_places, at_taken, left_all, left_none}
+use Rattle.cms_edf.proofs.Exits.{ok_at_err}
 use Rattle.cms_edf.proofs.new_directory.append_left.Goals as goal
 use Rattle.cms_edf.proofs.new_directory.append_left.Goals.{then-place-leaves+in_ok-push, else-place-leaves}
 
@@ -41,3 +42,15 @@ returns-else-count-leaves c =
     let past : length a.written.now ≤ l.place-index = search rules in
     let none = c.if-count-leaves.false in
     left_none a.leaves.now a.count l.place-index a.written.now a.into.now.items l.into.items c.requires past l.invariant (omega (arith, none))
+
+pub bounds-written-place-index : goal.bounds-written-place-index
+bounds-written-place-index c = c.loop-place-test.true
+
+pub bounds-leaves-place : goal.bounds-leaves-place
+bounds-leaves-place c = c.if-place-leaves.true
+
+pub returns-in_err-push : goal.returns-in_err-push
+returns-in_err-push c = ok_at_err _ c.from_residual.result _ c.from_residual.ensures.1
+
+pub returns-in_err-extend_from_slice : goal.returns-in_err-extend_from_slice
+returns-in_err-extend_from_slice c = ok_at_err _ c.from_residual-in_err-extend_from_slice.result _ c.from_residual-in_err-extend_from_slice.ensures.1

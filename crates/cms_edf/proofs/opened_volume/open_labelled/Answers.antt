@@ -7,7 +7,7 @@ use Rattle.cms_fields.specs.Limits.{most_files}
 use Rattle.cms_fields.specs.declared.entry.Entry.{Entry}
 use Rattle.cms_model.specs.Trees.{image_of, bytes_at}
 use Rattle.cms_model.specs.Volumes.{tree_blocks, contents_in, first_twice}
-use Rattle.cms_held.specs.Kept.{IsKeptFile}
+use Rattle.cms_held.specs.Kept.{IsKept, IsKeptFile}
 use Rattle.cms_edf.specs.EntryShapes.{HasSize}
 use Rattle.cms_edf.proofs.Listings.{fewer_on}
 use Rattle.cms_tree.specs.Walks.{nodes_at}
@@ -21,7 +21,9 @@ use Rattle.cms_edf.specs.OpeningSteps.{system_at, listed, met_in, listed_in, tre
 use Rattle.cms_edf.specs.OpeningFiles.{HasTrees, HasContents, HaveCounts, read_trees, opened, told_files}
 use Rattle.cms_edf.proofs.VolumeOpened.{listing_bad, trees_bad, marks_bad, records_bad, opens, held_so, origin_in, walked_shape}
 use Rattle.cms_edf.proofs.Exits.{ok_at_err, reads_at_err, reads_at_ok, reads_then}
+use Rattle.cms_edf.proofs.opened_volume.open_labelled.Given as given
 use Rattle.cms_edf.proofs.opened_volume.open_labelled.Goals as goal
+use Rattle.cms_edf.proofs.opened_volume.open_labelled.Goals.{After-tree_held}
 
 pub returns-in_err-listing-clause-fault : goal.returns-in_err-listing-clause-fault
 returns-in_err-listing-clause-fault g c =
@@ -114,40 +116,12 @@ returns-clause-read g c = λ j told.
           (subst (λ (q : Place). values c.in-Ok-read_contents.files ≡ told_files q.bsize l.entries.items t.files.items has.contents) at has.files_are));
     }
 
-pub invariant_of-result : goal.invariant_of-result
-invariant_of-result g c =
-    let l = c.in_ok-listing.ensures.holds in
-    let t = c.in-Ok.ensures in
-    let place = c.place_of-place.ensures in
-    let entries : c.deref.result.now ≡ c.in_ok-listing.listing.entries.items = c.deref.ensures.value in
-    let files : length (values c.in-Ok-read_contents.files) ≡ length c.in_ok-listing.listing.entries.items = c.in-Ok-read_contents.ensures.total ∙ ap (λ (es : List Entry). length es) entries in
-    record {
-      named = c.in-Ok-read_contents.ensures.names;
-      kept = record {
-        within = c.requires.within;
-        size = c.requires.total;
-        small = search rules;
-        sized = subst (λ (q : Place). IsBlockSize q.bsize) place l.size;
-        origin_low = (origin_in c.args.label.origin c.requires.origin).0;
-        origin_high = (origin_in c.args.label.origin c.requires.origin).1;
-        label_long = c.requires.long;
-        directory_shape = walked_shape c.args.bsize c.in_ok-listing.listing.directory.blocks _ c.in_ok-listing.listing.walked refl l.leaves l.small.0
-            (subst (λ (q : Place). length c.in_ok-listing.listing.walked.pointers.items ≡ pointer_count (q.bsize / 4) c.in_ok-listing.listing.directory.blocks) place l.pointers);
-        directory_is = (l.leaves.1
-            ∙ (subst (λ (q : Place). c.in_ok-listing.listing.directory.blocks ≡ directory_count q.bsize (length c.in_ok-listing.listing.entries.items)) place l.counts.0
-            ∙ ap (directory_count c.args.bsize) (sym files)));
-        map_is = ap (λ (t : HeldTree). length t.leaves) c.tree_held.ensures ∙ (t.map.0
-            ∙ subst (λ (q : Place). c.in_ok-listing.listing.map.blocks ≡ up (up q.total 8) q.bsize) place l.counts.1);
-        map_shape = walked_shape c.args.bsize c.in_ok-listing.listing.map.blocks _ c.in-Ok.trees.map c.tree_held.ensures (l.map_shape.0, t.map.0) l.small.1
-            (subst (λ (q : Place). length c.in-Ok.trees.map.pointers.items ≡ pointer_count (q.bsize / 4) c.in_ok-listing.listing.map.blocks) place t.pointers);
-        bits_are = c.in-Ok-read_marks.ensures.count ∙ ap (λ (q : Place). q.total) place;
-        few = c.in-Ok-read_contents.ensures.few;
-        each = subst (λ (q : Place). All (IsKeptFile q.bsize q.total) (values c.in-Ok-read_contents.files)) place c.in-Ok-read_contents.ensures.each;
-      };
-    }
-
-pub returns-clause-kept : goal.returns-clause-kept
-returns-clause-kept g c =
+-- what was read is kept
+kept_so : (g : given.Over) (c : After-tree_held g)
+    → IsKept c.args.bsize c.args.unit.now.blocks c.args.label (length c.args.label_bytes.items)
+    (record { leaves = c.in_ok-listing.listing.walked.leaves.items; pointers = c.in_ok-listing.listing.walked.pointers.items }) c.tree_held.result c.in-Ok-read_marks.marks.map
+    (values c.in-Ok-read_contents.files)
+kept_so g c =
     let l = c.in_ok-listing.ensures.holds in
     let t = c.in-Ok.ensures in
     let place = c.place_of-place.ensures in
@@ -174,6 +148,12 @@ returns-clause-kept g c =
       few = c.in-Ok-read_contents.ensures.few;
       each = subst (λ (q : Place). All (IsKeptFile q.bsize q.total) (values c.in-Ok-read_contents.files)) place c.in-Ok-read_contents.ensures.each;
     }
+
+pub invariant_of-result : goal.invariant_of-result
+invariant_of-result g c = record { named = c.in-Ok-read_contents.ensures.names; kept = kept_so g (goal.at.invariant_of-result g c).After-tree_held }
+
+pub returns-clause-kept : goal.returns-clause-kept
+returns-clause-kept g c = kept_so g (goal.at.returns-clause-kept g c).After-tree_held
 
 pub returns-in_err-listing-clause-reads : goal.returns-in_err-listing-clause-reads
 returns-in_err-listing-clause-reads g c = reads_at_err c.from_residual.result _ c.from_residual.ensures.1 c.in_err-listing.ensures.reads
