@@ -9,6 +9,7 @@ pub mod Shown
 pub mod Ready
 pub mod PlaceMaps
 pub mod Asks
+pub mod Counts
 pub mod Talks
 pub mod KeptReads
 pub mod Turns

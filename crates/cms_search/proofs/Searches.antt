@@ -1,10 +1,12 @@
 -- Places in lists, and what searches find.
-use Rattle.std.proofs.Common.{◌≡◌, ℕ, zero, suc, ◌+◌, ◌<◌, ◌≤◌, List, [], ◌∷◌, ◌++◌, length, map, take, drop, append_assoc, refl, sym, ap, subst, ◌∙◌, arith, append-nil}
+use Rattle.std.proofs.Common.{◌≡◌, ℕ, zero, suc, ◌+◌, ◌<◌, ◌≤◌, List, [], ◌∷◌, ◌++◌, length, map, take, drop, get_or, append_assoc, refl, sym, ap, subst, ◌∙◌, arith, append-nil}
 use Rattle.std.specs.Prelude.{Bool, true, false, cond, Option, Some, None, Ok, Err, slice_get}
 use Rattle.std.specs.List.{flat_map}
-use Rattle.std.specs.Option.{option_map}
+use Rattle.std.specs.Borrow.{Bor}
+use Rattle.std.specs.Option.{option_copied, option_map}
+use Rattle.std.specs.Slice.{IsItemAt}
 use Rattle.std.proofs.lemmas.List.{map-append}
-use Rattle.std.proofs.lemmas.Option.{same_Some}
+use Rattle.std.proofs.lemmas.Option.{same_Some, slice_get_past, slice_get_read}
 use Rattle.cms_operands.specs.ReadModes.{base_of}
 use Rattle.cms_search.specs.Searches.{Listed, Shelf, Shelves, item_at, has, places_from, places_where, found_at, searched, with_extensions, letters_of_mode, first_placed}
 use Rattle.cms_search.specs.declared.fault.SearchFault.TheVariants.{NotAccessed, NotFound}
@@ -19,6 +21,11 @@ item_at_map f [] n = refl
 item_at_map f (None ∷ xs) zero = refl
 item_at_map f (Some x ∷ xs) zero = refl
 item_at_map f (x ∷ xs) (suc n) = item_at_map f xs n
+
+-- what a list lends of a place is what stands there
+pub lent_at : {A : Type 0} (xs : List A) (i : ℕ) (r : Option (Bor A)) → IsItemAt xs i r → option_copied r ≡ slice_get xs i
+lent_at xs i None h = sym (slice_get_past xs i h.3)
+lent_at xs i (Some x) h = sym (slice_get_read xs (length xs) i x.now refl h.3.0 h.1)
 
 -- ---- places
 
@@ -173,3 +180,9 @@ flat_more f xs i x at = let e : i + 1 ≡ suc i = omega arith in rw e (go xs i a
 
 pub flat_all : (f : ℕ → List Found) (xs : List ℕ) (i : ℕ) → length xs ≤ i → flat_map f (take i xs) ≡ flat_map f xs
 flat_all f xs i le = ap (flat_map f) (take_all i xs le)
+
+-- what stands at an index
+pub at_index : (xs : List ℕ) (i : ℕ) → i < length xs → slice_get xs i ≡ Some (get_or xs i 0)
+at_index [] i less = absurd (omega (arith, less))
+at_index (x ∷ xs) zero less = refl
+at_index (x ∷ xs) (suc i) less = at_index xs i (omega (arith, less))

@@ -191,6 +191,12 @@ read_seat [] n x some is = absurd (cc some)
 read_seat (y ∷ ys) zero x some is = sym is
 read_seat (y ∷ ys) (suc n) x some is = read_seat ys n x some is
 
+-- a place of the list has what is read there
+pub item_read : (xs : List (Option Seated)) (n : ℕ) (x : Option Seated) → n < length xs → x ≡ get_or xs n x → item_at xs n ≡ x
+item_read [] n x less is = absurd (omega (arith, less))
+item_read (y ∷ ys) zero x less is = sym is
+item_read (y ∷ ys) (suc n) x less is = item_read ys n x (omega (arith, less)) is
+
 no_seat : (x : Option Seated) → x ≡ None → IsSome x → ⊥
 no_seat None is some = absurd (cc some)
 no_seat (Some s) is some = absurd (cc is)

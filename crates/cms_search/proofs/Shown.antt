@@ -18,7 +18,7 @@ use Rattle.cms_edf.specs.declared.held.FileInfo.{FileInfo}
 use Rattle.cms_disk.specs.Disks.{Accessed, StandsIn, place_of}
 use Rattle.cms_disk.proofs.FilesFound.{stands_tells}
 use Rattle.cms_search.specs.Machine.{Letter, Machine, minidisk_in}
-use Rattle.cms_search.specs.Searches.{Listed, Shelf, Shelves, item_at, places_from, places_where, listed, shelf_in, shelves_in, may_find, is_found, found_at, found_in, found_on, found_among, first_found, look_up, placed_in, placed_on, first_placed, first_among, find_first, letters_of_mode}
+use Rattle.cms_search.specs.Searches.{Listed, Shelf, Shelves, has, is_searched, item_at, places_from, places_where, listed, shelf_in, shelves_in, may_find, is_found, found_at, found_in, found_on, found_among, first_found, look_up, placed_in, placed_on, first_placed, first_among, find_first, letters_of_mode}
 use Rattle.cms_search.specs.Tables.{AccessTable, Seated, listed_held, told_of, shelf_of, shelves_of, letters_in}
 use Rattle.cms_search.specs.Shows.{Shows}
 use Rattle.cms_search.specs.declared.fault.SearchFault.{SearchFault}
@@ -32,6 +32,14 @@ shelf_at t n s at = item_at_map shelf_of t.seats n ∙ ap (λ (x : Option Seated
 
 pub shelf_none : (t : AccessTable) (n : ℕ) → item_at t.seats n ≡ None → item_at (shelves_of t) n ≡ None
 shelf_none t n at = item_at_map shelf_of t.seats n ∙ ap (λ (x : Option Seated). option_map shelf_of x) at
+
+-- whether it is searched
+pub searched_none : (t : AccessTable) (n : ℕ) (base : Option ℕ) → item_at t.seats n ≡ None → false ≡ has (is_searched base) (item_at (shelves_of t) n)
+searched_none t n base at = let e = shelf_none t n at in rw e refl
+
+pub searched_some : (t : AccessTable) (n : ℕ) (s : Seated) (base : Option ℕ) → item_at t.seats n ≡ Some s
+    → is_searched base (shelf_of s) ≡ has (is_searched base) (item_at (shelves_of t) n)
+searched_some t n s base at = let e = shelf_at t n s at in rw e refl
 
 -- ---- the place of a name
 
@@ -61,6 +69,9 @@ pub placed_none : (t : AccessTable) (mode : ReadMode) (name : Name) (n : ℕ) (s
     → placed_on (shelves_of t) mode name n ≡ None
 placed_none t mode name n s at none =
     let e = shelf_at t n s at in let p = position_named name s.disk.volume ∙ none in rw (e, p) refl
+
+pub placed_absent : (t : AccessTable) (mode : ReadMode) (name : Name) (n : ℕ) → item_at t.seats n ≡ None → placed_on (shelves_of t) mode name n ≡ None
+placed_absent t mode name n at = let e = shelf_none t n at in rw e refl
 
 pub placed_some : (t : AccessTable) (mode : ReadMode) (name : Name) (n : ℕ) (s : Seated) (k : ℕ) (info : FileInfo) (b : Bool) → item_at t.seats n ≡ Some s
     → place_of name s.disk.volume ≡ Some k → slice_get (infos_in s.disk.volume) k ≡ Some info → may_find mode s.letter info.number ≡ b

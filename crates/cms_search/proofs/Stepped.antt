@@ -1,6 +1,7 @@
 -- An update of the disk of a letter, as a step of a command.
 use Rattle.std.proofs.Common.{◌≡◌, ◌≢◌, inr, ⊎_elim, ◌∙◌, ℕ, List, [], ◌∷◌, Option, Some, None, Result, Ok, Err, pos, refl, sym, ap, subst, slice_get, arith}
 use Rattle.std.specs.Prelude.{⊤, IfSome, option_map}
+use Rattle.std.specs.Option.{IsSome}
 use Rattle.cms_journal.specs.Causes.{Counted}
 use Rattle.cms_journal.specs.Journal.{Journal, IsWritable}
 use Rattle.cms_journal.specs.Told.{Told}
@@ -71,6 +72,14 @@ written_seat (Some s) n is = (s, refl)
 pub written_at : (t : AccessTable) (n : ℕ) → writing (item_at (letters_in t.seats) n) n ≡ Ok tt → (s : Seated) × (item_at t.seats n ≡ Some s)
 written_at t n is =
     written_seat (item_at t.seats n) n (ap (λ (x : Option Letter). writing x n) (sym (item_at_map (λ (s : Seated). s.letter) t.seats n)) ∙ is)
+
+-- whether a letter may be written, by its disk
+pub writing_at : (t : AccessTable) (n : ℕ) (x : Option Seated) → item_at t.seats n ≡ x → writing (option_map (λ (s : Seated). s.letter) x) n ≡ writing (item_at (letters_in t.seats) n) n
+writing_at t n x at =
+    ap (λ (y : Option Letter). writing y n) (sym (item_at_map (λ (s : Seated). s.letter) t.seats n ∙ ap (λ (y : Option Seated). option_map (λ (s : Seated). s.letter) y) at))
+
+pub accessed_at : (t : AccessTable) (n : ℕ) → writing (item_at (letters_in t.seats) n) n ≡ Ok tt → IsSome (item_at t.seats n)
+accessed_at t n is = let s = written_at t n is in rw s.1 refl
 
 pub may_change : (told : Told) (t : AccessTable) (n : ℕ) (s : Seated) (unit : UnitInfo) (change : asked.Change) → item_at t.seats n ≡ Some s → slice_get t.units s.letter.unit ≡ Some unit
     → CanChange s.disk.volume.files change → Usable told t → MayChange told s.disk change

@@ -2,7 +2,7 @@ use Rattle.std.proofs.Common.{slice_get}
 use Rattle.cms_search.specs.FileWrites.{change_with}
 use Rattle.cms_search.proofs.Came.{came, came_accessed, came_device}
 use Rattle.cms_search.proofs.Updates.{may_update}
-use Rattle.cms_search.proofs.Stepped.{has_device, if_some}
+use Rattle.cms_search.proofs.Stepped.{has_device, if_some, accessed_at}
 use Rattle.cms_search.proofs.file_write.update_file.Goals as goal
 
 pub update-done-requires-clause-may : goal.update-done-requires-clause-may
@@ -30,3 +30,15 @@ pub returns-clause-acts : goal.returns-clause-acts
 returns-clause-acts g c = λ records stands.
     let x = came _ _ c.args.state.now _ c.args.letter (change_with c.args.name.now c.args.update records) _ _ c.requires.writing c.of-stamp.ensures.value (c.update-done.ensures records stands) in
     c.end_update.ensures.acts _ x.seat _ x.is
+
+pub update-done-requires-clause-accessed : goal.update-done-requires-clause-accessed
+update-done-requires-clause-accessed g c = accessed_at c.args.state.now.table c.args.letter c.requires.writing
+
+pub update-done-requires-clause-valid : goal.update-done-requires-clause-valid
+update-done-requires-clause-valid g c = c.requires.valid
+
+pub update-done-requires-clause-stamp : goal.update-done-requires-clause-stamp
+update-done-requires-clause-stamp g c = c.of-stamp.ensures.valid c.requires.moment
+
+pub returns-clause-kept : goal.returns-clause-kept
+returns-clause-kept g c = c.end_update.ensures.kept

@@ -1,8 +1,9 @@
-use Rattle.std.proofs.Common.{◌<◌, ℕ, length, subst, arith}
-use Rattle.std.specs.Prelude.{Result}
+use Rattle.std.proofs.Common.{◌<◌, ℕ, length, subst, arith, ◌≡◌, refl}
+use Rattle.std.specs.Prelude.{Result, OnErr}
 use Rattle.cms_search.specs.Tables.{EndsAccess}
 use Rattle.cms_search.specs.declared.fault.SearchFault.{SearchFault}
 use Rattle.cms_search.proofs.Tables.{get_some}
+use Rattle.cms_world.specs.Seen.{seen}
 use Rattle.cms_search.proofs.table.AccessTable.access.Goals as goal
 
 pub returns-clause-access : goal.returns-clause-access
@@ -18,3 +19,15 @@ returns-clause-access g c =
     (λ (r : Result ℕ SearchFault). EndsAccess (g.W.World.told c.args.world.now) (g.W.World.told c.open-found.new.world) t c.settle.new.self c.args.letter c.args.parent c.settle.result r)
     c.in_ok-place.ensures.wanted
     (unit.0, doubt.0, c.open-found.result, unit.1, doubt.1, c.open-found.ensures.opens unit.0 doubt.0 unit.1 doubt.1, c.settle.ensures.answer, c.settle.ensures.table unit.0 unit.1)
+
+pub open-found-requires-clause-within : goal.open-found-requires-clause-within
+open-found-requires-clause-within g c = c.in_ok-place.ensures.within
+
+pub settle-requires-clause-within : goal.settle-requires-clause-within
+settle-requires-clause-within g c = c.in_ok-place.ensures.within
+
+pub settle-requires-clause-letter : goal.settle-requires-clause-letter
+settle-requires-clause-letter g c = c.requires.letter
+
+pub returns-clause-unlooked : goal.returns-clause-unlooked
+returns-clause-unlooked g c = subst (λ (r : Result ℕ SearchFault). OnErr r (seen g.W.World c.open-found.new.world ≡ seen g.W.World c.args.world.now)) c.in_ok-place.ensures.wanted tt
