@@ -1,11 +1,14 @@
 -- Numbers that calls count.
-use Rattle.std.proofs.Common.{◌≡◌, ℕ, ◌+◌, ◌-◌, ◌<◌, ◌≤◌, List, [], length, subst, sym, arith}
+use Rattle.std.proofs.Common.{◌≡◌, ℕ, suc, ◌+◌, ◌-◌, ◌<◌, ◌≤◌, List, [], length, subst, sym, arith}
 
 pub no_more : (n : ℕ) → n ≤ n
 no_more n = omega arith
 
 pub some_left : (n : ℕ) → (n ≡ 0 → ⊥) → 1 ≤ n
 some_left n some = omega arith
+
+pub one_spent : (n : ℕ) → (n ≡ 0 → ⊥) → n ≡ suc (n - 1)
+one_spent n some = omega arith
 
 pub one_fewer : (n : ℕ) → (n ≡ 0 → ⊥) → n - 1 < n
 one_fewer n some = omega arith

@@ -1,9 +1,9 @@
 -- Places in lists, and what searches find.
 use Rattle.std.proofs.Common.{◌≡◌, ℕ, zero, suc, ◌+◌, ◌<◌, ◌≤◌, List, [], ◌∷◌, ◌++◌, length, map, take, drop, get_or, append_assoc, refl, sym, ap, subst, ◌∙◌, arith, append-nil}
-use Rattle.std.specs.Prelude.{Bool, true, false, cond, Option, Some, None, Ok, Err, slice_get}
+use Rattle.std.specs.Prelude.{Bool, true, false, not, is_some, cond, Option, Some, None, Ok, Err, slice_get}
 use Rattle.std.specs.List.{flat_map}
 use Rattle.std.specs.Borrow.{Bor}
-use Rattle.std.specs.Option.{option_copied, option_map}
+use Rattle.std.specs.Option.{IsSome, option_copied, option_map}
 use Rattle.std.specs.Slice.{IsItemAt}
 use Rattle.std.proofs.lemmas.List.{map-append}
 use Rattle.std.proofs.lemmas.Option.{same_Some, slice_get_past, slice_get_read}
@@ -26,6 +26,16 @@ item_at_map f (x ∷ xs) (suc n) = item_at_map f xs n
 pub lent_at : {A : Type 0} (xs : List A) (i : ℕ) (r : Option (Bor A)) → IsItemAt xs i r → option_copied r ≡ slice_get xs i
 lent_at xs i None h = sym (slice_get_past xs i h.3)
 lent_at xs i (Some x) h = sym (slice_get_read xs (length xs) i x.now refl h.3.0 h.1)
+
+pub lent_none : {A : Type 0} (r : Option (Bor A)) (b : Bool) → is_some r ≡ not b → b ≡ true → option_copied r ≡ None
+lent_none None b is none = refl
+lent_none (Some x) true is none = absurd (cc is)
+lent_none (Some x) false is none = absurd (cc none)
+
+pub lent_some : {A : Type 0} (r : Option (Bor A)) (b : Bool) → is_some r ≡ not b → b ≡ false → IsSome (option_copied r)
+lent_some None true is some = absurd (cc some)
+lent_some None false is some = absurd (cc is)
+lent_some (Some x) b is some = refl
 
 -- ---- places
 

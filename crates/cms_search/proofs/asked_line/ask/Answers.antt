@@ -1,9 +1,9 @@
-use Rattle.std.proofs.Common.{◌-◌, inl, inr, ap, refl, ◌∙◌, arith, ◌≡◌, ℕ, List, drop, sym}
+use Rattle.std.proofs.Common.{◌-◌, inl, inr, ap, refl, ◌∙◌, ℕ, List, drop, sym}
 use Rattle.std.proofs.lemmas.Result.{err_from_is_err_and, IfOk-from_err}
 use Rattle.cms_line.specs.Consoles.{item_of}
 use Rattle.cms_search.proofs.KeptReads.{at_err, keeps_dropped, keeps_none, keeps_stayed, unread_talks}
 use Rattle.cms_search.proofs.Talks.{ask_breaks, ask_gives, ask_goes_on, ask_spent, ask_stacked, ask_stops, ask_unstacked, came_none, which}
-use Rattle.cms_search.proofs.Counts.{fewer_left, no_more, none_fits, one_fewer, some_left}
+use Rattle.cms_search.proofs.Counts.{fewer_left, no_more, none_fits, one_fewer, one_spent, some_left}
 use Rattle.cms_search.proofs.asked_line.ask.Goals as goal
 use Rattle.cms_search.proofs.asked_line.ask.Goals.{in-Bad, in-Long, in-Rest}
 
@@ -36,7 +36,7 @@ returns-then-left-eq0-clause-talks g c =
       | in-Long w ↦ inr (inl (w.in-Long.is, w.no_line-is))
       | in-Rest w ↦ inr (inr (w.in-Rest.is, w.no_line-is))
     ]))
-    (omega arith))
+    c.if-left-eq0.true)
 
 pub loop-line-preserved : goal.loop-line-preserved
 loop-line-preserved g c = record {
@@ -46,17 +46,17 @@ loop-line-preserved g c = record {
         | in-Long w ↦ inr (inl (w.in-Long.is, w.no_line-is))
         | in-Rest w ↦ inr (inr (w.in-Rest.is, w.no_line-is))
       ]))
-      (omega arith) c.in_ok-drop_item.ensures;
+      (one_spent c.loop-line.left c.if-left-eq0.false) c.in_ok-drop_item.ensures;
   kept = keeps_dropped _ _ _ _ _ _ _ c.args.left.now c.loop-line.left (c.loop-line.left - 1) c.in_ok-line.field-0 c.match-branch-2.no_line c.loop-line.invariant.kept c.in_ok-line.ensures.took
       (which _ _ (elim c.match-branch-2.branch [
         | in-Bad w ↦ inl (w.in-Bad.is, w.no_line-is)
         | in-Long w ↦ inr (inl (w.in-Long.is, w.no_line-is))
         | in-Rest w ↦ inr (inr (w.in-Rest.is, w.no_line-is))
       ]))
-      (omega arith) (unread_talks _ _ _ _ _ c.in_ok-drop_item.ensures);
+      (one_spent c.loop-line.left c.if-left-eq0.false) (unread_talks _ _ _ _ _ c.in_ok-drop_item.ensures);
   none = c.loop-line.invariant.none;
   first = c.loop-line.invariant.first;
-  less = omega arith;
+  less = fewer_left c.loop-line.left c.args.left.now c.loop-line.invariant.less;
 }
 
 pub returns-in_err-drop_item-clause-talks : goal.returns-in_err-drop_item-clause-talks
@@ -69,7 +69,7 @@ returns-in_err-drop_item-clause-talks g c =
       | in-Long w ↦ inr (inl (w.in-Long.is, w.no_line-is))
       | in-Rest w ↦ inr (inr (w.in-Rest.is, w.no_line-is))
     ]))
-    (omega arith) c.in_err-drop_item.ensures))
+    (one_spent c.loop-line.left c.if-left-eq0.false) c.in_err-drop_item.ensures))
 
 -- what was read is kept
 pub loop-line-init : goal.loop-line-init
@@ -78,7 +78,7 @@ loop-line-init g c = record {
   kept = keeps_none _ _ _;
   none = c.in_default.ensures.1;
   first = c.in_default.ensures.1;
-  less = omega arith;
+  less = no_more c.args.left.now;
 }
 
 pub returns-in_err-line-clause-read : goal.returns-in_err-line-clause-read
@@ -94,7 +94,7 @@ returns-in_err-drop_item-clause-read g c =
       | in-Long w ↦ inr (inl (w.in-Long.is, w.no_line-is))
       | in-Rest w ↦ inr (inr (w.in-Rest.is, w.no_line-is))
     ]))
-    (omega arith) (unread_talks _ _ _ _ _ c.in_err-drop_item.ensures))
+    (one_spent c.loop-line.left c.if-left-eq0.false) (unread_talks _ _ _ _ _ c.in_err-drop_item.ensures))
 
 pub returns-in-Some-clause-took : goal.returns-in-Some-clause-took
 returns-in-Some-clause-took g c = let is = c.in-Some.ensures in rw is refl

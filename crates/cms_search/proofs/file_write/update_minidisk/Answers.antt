@@ -1,7 +1,7 @@
 use Rattle.std.proofs.Common.{sym, subst}
 use Rattle.cms_disk.proofs.Added.{appends_of}
 use Rattle.cms_model.specs.Records.{IsValid}
-use Rattle.cms_search.specs.FileWrites.{FitsUpdate, MayUpdate, data_of}
+use Rattle.cms_search.specs.FileWrites.{FitsUpdate, data_of}
 use Rattle.cms_search.specs.declared.file_write.FileWrite.{FileWrite}
 use Rattle.cms_search.proofs.file_write.update_minidisk.Goals as goal
 
@@ -40,18 +40,6 @@ put_at-requires-clause-file g c = subst (λ (u : FileWrite). IsValid (data_of u)
 
 pub append_at-requires-clause-more : goal.append_at-requires-clause-more
 append_at-requires-clause-more g c = subst (λ (u : FileWrite). IsValid (data_of u)) c.in-Append.is c.requires.valid
-
-pub put-requires-clause-blocks : goal.put-requires-clause-blocks
-put-requires-clause-blocks g c =
-    let may : MayUpdate (g.W.World.told c.args.world.now) c.args.disk.now c.args.name.now c.args.update = c.requires.may in may.blocks
-
-pub put_at-requires-clause-blocks : goal.put_at-requires-clause-blocks
-put_at-requires-clause-blocks g c =
-    let may : MayUpdate (g.W.World.told c.args.world.now) c.args.disk.now c.args.name.now c.args.update = c.requires.may in may.blocks
-
-pub append_at-requires-clause-blocks : goal.append_at-requires-clause-blocks
-append_at-requires-clause-blocks g c =
-    let may : MayUpdate (g.W.World.told c.args.world.now) c.args.disk.now c.args.name.now c.args.update = c.requires.may in may.blocks
 
 pub put-requires-clause-writable : goal.put-requires-clause-writable
 put-requires-clause-writable g c = c.requires.may.writable

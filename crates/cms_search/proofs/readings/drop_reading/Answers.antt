@@ -1,5 +1,4 @@
-use Rattle.std.proofs.Common.{◌<◌, ℕ, subst, sym, ◌≡◌, ◌∙◌, Option, Some, None, ap, refl}
-use Rattle.cms_search.specs.Searches.{item_at}
+use Rattle.std.proofs.Common.{◌<◌, ℕ, subst, sym, ◌∙◌, Some, ap, refl}
 use Rattle.cms_search.specs.Tables.{Seated}
 use Rattle.cms_search.proofs.Seats.{item_read}
 use Rattle.cms_search.proofs.readings.drop_reading.Goals as goal

@@ -1,9 +1,11 @@
-use Rattle.std.proofs.Common.{◌<◌, ℕ, length, subst, arith, ◌≡◌, refl}
+use Rattle.std.proofs.Common.{◌∙◌, Err, ap, ◌<◌, ℕ, length, subst, arith, ◌≡◌, refl}
 use Rattle.std.specs.Prelude.{Result, OnErr}
 use Rattle.cms_search.specs.Tables.{EndsAccess}
 use Rattle.cms_search.specs.declared.fault.SearchFault.{SearchFault}
 use Rattle.cms_search.proofs.Tables.{get_some}
 use Rattle.cms_world.specs.Seen.{seen}
+use Rattle.cms_search.proofs.KeptReads.{at_err}
+use Rattle.std.proofs.lemmas.Result.{err_from_is_err_and}
 use Rattle.cms_search.proofs.table.AccessTable.access.Goals as goal
 
 pub returns-clause-access : goal.returns-clause-access
@@ -31,3 +33,15 @@ settle-requires-clause-letter g c = c.requires.letter
 
 pub returns-clause-unlooked : goal.returns-clause-unlooked
 returns-clause-unlooked g c = subst (λ (r : Result ℕ SearchFault). OnErr r (seen g.W.World c.open-found.new.world ≡ seen g.W.World c.args.world.now)) c.in_ok-place.ensures.wanted tt
+
+pub returns-in_err-place-clause-access : goal.returns-in_err-place-clause-access
+returns-in_err-place-clause-access g c =
+    let p = err_from_is_err_and c.from_residual.result c.from_residual.ensures.1 in
+    let is : c.from_residual.result ≡ Err c.in_err-place.field-0.0 = p.1 ∙ ap (λ (e : SearchFault). Err e) p.2 in
+    subst
+    (λ (r : Result ℕ SearchFault). EndsAccess (g.W.World.told c.args.world.now) (g.W.World.told c.args.world.now) c.args.self.now c.args.self.now c.args.letter c.args.parent c.from_residual.result r)
+    c.in_err-place.ensures.wanted
+    (is, refl, refl)
+
+pub returns-in_err-place-clause-unlooked : goal.returns-in_err-place-clause-unlooked
+returns-in_err-place-clause-unlooked g c = at_err _ _ refl
