@@ -1,10 +1,10 @@
 -- Commands that get arguments and subcommands.
-use Rattle.std.proofs.Common.{◌≡◌, ◌∙◌, ℕ, Bor, ◌+◌, ◌<◌, ◌≤◌, Bool, false, true, List, [], ◌∷◌, ◌++◌, length, get_or, map, take, ap, ap₂, arith, refl, subst, suc, sym, zero}
+use Rattle.std.proofs.Common.{◌≡◌, ◌∙◌, ℕ, Bor, ◌+◌, ◌<◌, ◌≤◌, Bool, false, true, List, [], ◌∷◌, ◌++◌, length, get_or, map, take, ap, ap₂, refl, subst}
 use Rattle.std.specs.Prelude.{◌&&◌, not, Some}
 use Rattle.std.proofs.lemmas.Bool.{and_parts}
-use Rattle.std.proofs.lemmas.List.{take_all, take_more}
+use Rattle.std.proofs.lemmas.List.{map-append, take_all}
 use Rattle.clap.specs.Simple.{app_of_fields, on_top}
-use Rattle.clap.specs.Words.{AddsArg, AddsSubcommand, App, Rule, Text, app_of, new_app, rule_of, with_rule, with_subcommand}
+use Rattle.clap.specs.Words.{AddsArg, AddsInTurn, AddsSubcommand, App, Rule, Text, app_of, new_app, rule_of, with_rule, with_subcommand}
 use Rattle.clap.specs.declared.builder.command.Command.TheViews.{out-Command}
 use Rattle.clap.specs.declared.builder.action.ArgAction.TheVariants.{SetTrue}
 use Rattle.clap.specs.declared.builder.arg.Arg.{Arg}
@@ -18,24 +18,23 @@ pub arg_added : (old new : Command) (arg : Arg) (rule : Rule) (form : App) → A
     → HasForm old form → HasForm new (with_rule form rule)
 arg_added old new arg rule form adds local is has = record { app = adds.shape local ∙ ap₂ with_rule has.app is }
 
--- rules one behind another
-rules_join : (form : App) (rules : List Rule) (rule : Rule) → with_rules form (rules ++ rule ∷ []) ≡ with_rule (with_rules form rules) rule
-rules_join form [] rule = refl
-rules_join form (first ∷ rules) rule = rules_join (with_rule form first) rules rule
+-- what a command takes of an argument: its rule, and whether all commands below share it
+abbrev pub taken_of : Arg → Rule × Bool
+taken_of a = (rule_of a, a.global)
 
-pub one_added : (new : Command) (form : App) (arguments : List Argument) (i : ℕ) (d : Argument) → i < length arguments
-    → HasForm new (with_rule (with_rules form (map rule_for (take i arguments))) (rule_for (get_or arguments i d)))
-    → HasForm new (with_rules form (map rule_for (take (i + 1) arguments)))
-one_added new form arguments i d inside has =
-    let more : map rule_for (take (i + 1) arguments) ≡ map rule_for (take i arguments) ++ rule_for (get_or arguments i d) ∷ [] =
-    sym (one_taken rule_for (map rule_for (take i arguments)) arguments i d (rule_for (get_or arguments i d)) inside refl refl) in
-    let whole : with_rules form (map rule_for (take (i + 1) arguments)) ≡ with_rule (with_rules form (map rule_for (take i arguments))) (rule_for (get_or arguments i d)) =
-    ap (with_rules form) more ∙ rules_join form (map rule_for (take i arguments)) (rule_for (get_or arguments i d)) in
-    subst (HasForm new) (sym whole) has
+abbrev pub taken_for : Argument → Rule × Bool
+taken_for argument = (rule_for argument, false)
 
-pub all_added : (new : Command) (form : App) (arguments : List Argument) (i : ℕ) → length arguments ≤ i
-    → HasForm new (with_rules form (map rule_for (take i arguments))) → HasForm new (with_rules form (map rule_for arguments))
-all_added new form arguments i all has = subst (λ (xs : List Argument). HasForm new (with_rules form (map rule_for xs))) (take_all i arguments all) has
+pub args_added : (args : List Arg) (arguments : List Argument) (old new : Command) (form : App) → AddsInTurn AddsArg old args new → map taken_of args ≡ map taken_for arguments
+    → HasForm old form → HasForm new (with_rules form (map rule_for arguments))
+args_added [] [] old new form adds same has = subst (λ (c : Command). HasForm c form) adds has
+args_added [] (argument ∷ arguments) old new form adds same has = absurd (cc)
+args_added (arg ∷ args) [] old new form adds same has = absurd (cc)
+args_added (arg ∷ args) (argument ∷ arguments) old new form adds same has =
+    let first : taken_of arg ≡ taken_for argument = cc in
+    let more : map taken_of args ≡ map taken_for arguments = cc in
+    args_added args arguments adds.0 new (with_rule form (rule_for argument)) adds.2 more
+    (arg_added old adds.0 arg (rule_for argument) form adds.1 (ap (λ (t : Rule × Bool). t.1) first) (ap (λ (t : Rule × Bool). t.0) first) has)
 
 -- of a plain command nothing is shared with others
 third : (groups external globals rest : Bool) → (groups && (not external && (not globals && rest))) ≡ true → globals ≡ false
@@ -50,26 +49,25 @@ command_added old other new form below adds has under plain =
     let is : (app_of other).top.is_plain ≡ true = ap (λ (a : App). a.top.is_plain) under.app ∙ plain in
     record { app = adds.shape (third _ _ _ _ is) ∙ ap₂ with_subcommand has.app (ap (λ (a : App). a.top) under.app) }
 
--- commands one behind another
-commands_join : (whole : App) (forms : List CommandForm) (form : CommandForm) → with_forms whole (forms ++ form ∷ []) ≡ with_subcommand (with_forms whole forms) (form_for form).top
-commands_join whole [] form = refl
-commands_join whole (first ∷ forms) form = commands_join (with_subcommand whole (form_for first).top) forms form
+pub commands_added : (commands : List Command) (forms : List CommandForm) (old new : Command) (whole : App) → AddsInTurn AddsSubcommand old commands new
+    → map app_of commands ≡ map form_for forms → are_plain forms ≡ true → HasForm old whole → HasForm new (with_forms whole forms)
+commands_added [] [] old new whole adds same plain has = subst (λ (c : Command). HasForm c whole) adds has
+commands_added [] (form ∷ forms) old new whole adds same plain has = absurd (cc)
+commands_added (command ∷ commands) [] old new whole adds same plain has = absurd (cc)
+commands_added (command ∷ commands) (form ∷ forms) old new whole adds same plain has =
+    let first : app_of command ≡ form_for form = cc in
+    let more : map app_of commands ≡ map form_for forms = cc in
+    let both = and_parts (form_for form).top.is_plain (are_plain forms) plain in
+    commands_added commands forms adds.0 new (with_subcommand whole (form_for form).top) adds.2 more both.1
+    (command_added old command adds.0 whole (form_for form) adds.1 has (record { app = first }) both.0)
 
-pub one_command : (new : Command) (whole : App) (forms : List CommandForm) (i : ℕ) (d : CommandForm) → i < length forms
-    → HasForm new (with_subcommand (with_forms whole (take i forms)) (form_for (get_or forms i d)).top) → HasForm new (with_forms whole (take (i + 1) forms))
-one_command new whole forms i d inside has =
-    let more : with_forms whole (take (i + 1) forms) ≡ with_subcommand (with_forms whole (take i forms)) (form_for (get_or forms i d)).top =
-    ap (with_forms whole) (take_more forms i d inside) ∙ commands_join whole (take i forms) (get_or forms i d) in
-    subst (HasForm new) (sym more) has
+-- one more, of a list that is made in turn
+pub one_made : {A B C : Type 0} (g : C → B) (f : A → B) (ys zs : List C) (y : C) (xs : List A) (i : ℕ) (d : A) → zs ≡ ys ++ y ∷ [] → i < length xs → g y ≡ f (get_or xs i d)
+    → map g ys ≡ map f (take i xs) → map g zs ≡ map f (take (i + 1) xs)
+one_made g f ys zs y xs i d made inside is so_far = ap (map g) made ∙ map-append g ys (y ∷ []) ∙ one_taken f (map g ys) xs i d (g y) inside is so_far
 
-pub all_commands : (new : Command) (whole : App) (forms : List CommandForm) (i : ℕ) → length forms ≤ i
-    → HasForm new (with_forms whole (take i forms)) → HasForm new (with_forms whole forms)
-all_commands new whole forms i all has = subst (λ (xs : List CommandForm). HasForm new (with_forms whole xs)) (take_all i forms all) has
-
-pub plain_at : (forms : List CommandForm) (i : ℕ) (d : CommandForm) → i < length forms → are_plain forms ≡ true → (form_for (get_or forms i d)).top.is_plain ≡ true
-plain_at [] i d inside plain = absurd (omega arith)
-plain_at (form ∷ forms) zero d inside plain = (and_parts (form_for form).top.is_plain (are_plain forms) plain).0
-plain_at (form ∷ forms) (suc i) d inside plain = plain_at forms i d (omega arith) (and_parts (form_for form).top.is_plain (are_plain forms) plain).1
+pub all_made : {A B C : Type 0} (g : C → B) (f : A → B) (ys : List C) (xs : List A) (i : ℕ) → length xs ≤ i → map g ys ≡ map f (take i xs) → map g ys ≡ map f xs
+all_made g f ys xs i all is = is ∙ ap (map f) (take_all i xs all)
 
 -- the settings of a command
 pub has_version : (old new : Command) (version : Bor Text) → out-Command new ≡ record (out-Command old) { version = Some version }

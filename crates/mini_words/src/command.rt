@@ -2,9 +2,9 @@
 ghost use Rattle.std.specs.Prelude.{◌≡◌, ◌⊎◌, IfOk, IfErr, map, false, true};
 ghost use Rattle.clap.specs.Words.{found_of, kind_of, rows_of, subcommand_rows_of};
 ghost use Rattle.clap.specs.declared.error.kind.ErrorKind.TheVariants.{OutOfMemory};
-ghost use Rattle.mini_words.specs.Commands.{HasForm, are_taken, command_in, minidisk, top_form};
+ghost use Rattle.mini_words.specs.Commands.{HasForm, are_plain, are_taken, command_in, minidisk, top_form, with_forms};
 
-use crate::command_form::{Argument, CommandForm, Kind, new_command, with_commands};
+use crate::command_form::{Argument, CommandForm, Kind, commands_of, new_command};
 use clap::{ArgMatches, Command, Error};
 use std::alloc::{AllocError, Global};
 
@@ -283,10 +283,19 @@ fn top_command<'a>(alloc: Global) -> Command<'a>
         .disable_help_subcommand(true)
 }
 
+// The forms of all commands.
+fn forms() -> &'static [CommandForm<'static>]
+    ensures all { with_forms top_form result.now ≡ minidisk }
+    ensures plain { are_plain result.now ≡ true }
+{
+    &COMMANDS
+}
+
 fn minidisk<'a>(alloc: Global) -> Result<Command<'a>, AllocError>
     ensures { IfOk result (λ c. HasForm c minidisk) }
 {
-    with_commands(alloc, top_command(alloc), &COMMANDS)
+    let commands = commands_of(alloc, forms())?;
+    top_command(alloc).subcommands(commands)
 }
 
 /// What clap finds in the program's words, its name first: a command with its words. The error is for [`Error::print`], which

@@ -1,7 +1,7 @@
 // Commands that are built from tables.
-ghost use Rattle.std.specs.Prelude.{◌≡◌, IfOk, map, false, true};
-ghost use Rattle.clap.specs.Words.{App, new_app, rule_of, with_subcommand};
-ghost use Rattle.mini_words.specs.Commands.{HasForm, are_plain, form_for, rule_for, with_forms, with_rules};
+ghost use Rattle.std.specs.Prelude.{◌≡◌, Bool, IfOk, map, false};
+ghost use Rattle.clap.specs.Words.{Rule, app_of, new_app, rule_of};
+ghost use Rattle.mini_words.specs.Commands.{HasForm, form_for, rule_for};
 
 use clap::{Arg, ArgAction, Command};
 use std::alloc::{AllocError, Global};
@@ -72,59 +72,36 @@ fn arg_of<'a>(alloc: Global, argument: &Argument<'a>) -> Arg<'a>
     }
 }
 
-// Adds arguments, one after another.
-fn with_arguments<'a>(
-    alloc: Global,
-    mut command: Command<'a>,
-    arguments: &[Argument<'a>],
-) -> Result<Command<'a>, AllocError>
-    ensures { IfOk result (λ c. (form : App) → HasForm command.entry form
-        → HasForm c (with_rules form (map rule_for arguments.now))) }
+// Arguments as clap has them, in their order.
+fn args_of<'a>(alloc: Global, arguments: &[Argument<'a>]) -> Result<Vec<Arg<'a>>, AllocError>
+    ensures { IfOk result (λ args. map {B = Rule × Bool} (λ a. (rule_of a, a.global)) args.items
+        ≡ map {B = Rule × Bool} (λ argument. (rule_for argument, false)) arguments.now) }
 {
+    let mut args = Vec::with_capacity(alloc, arguments.len())?;
     for argument in arguments {
-        command = command.arg(arg_of(alloc, argument))?;
+        args.push_reserved(arg_of(alloc, argument));
     }
-    Ok(command)
+    Ok(args)
 }
 
 // A command with its arguments.
 fn command_of<'a>(alloc: Global, form: &CommandForm<'a>) -> Result<Command<'a>, AllocError>
     ensures { IfOk result (λ c. HasForm c (form_for form.now)) }
 {
-    let command = new_command(alloc, form.name, form.about, form.behind);
-    with_arguments(alloc, command, form.arguments)
+    let args = args_of(alloc, form.arguments)?;
+    new_command(alloc, form.name, form.about, form.behind).args(args)
 }
 
-// Adds a subcommand, whose arguments are its own.
-fn with_command<'a>(
+/// The commands of these forms, in their order.
+pub fn commands_of<'a>(
     alloc: Global,
-    command: Command<'a>,
-    form: &CommandForm<'a>,
-) -> Result<Command<'a>, AllocError>
-    ensures { IfOk result (λ c. (whole : App) → HasForm command.entry whole
-        → (form_for form.now).top.is_plain ≡ true
-        → HasForm c (with_subcommand whole (form_for form.now).top)) }
-{
-    match command_of(alloc, form) {
-        Ok(below) => command.subcommand(below),
-        Err(error) => {
-            drop(command);
-            Err(error)
-        }
-    }
-}
-
-/// Adds subcommands, one after another.
-pub fn with_commands<'a>(
-    alloc: Global,
-    mut command: Command<'a>,
     forms: &[CommandForm<'a>],
-) -> Result<Command<'a>, AllocError>
-    ensures { IfOk result (λ c. (whole : App) → HasForm command.entry whole
-        → are_plain forms.now ≡ true → HasForm c (with_forms whole forms.now)) }
+) -> Result<Vec<Command<'a>>, AllocError>
+    ensures { IfOk result (λ commands. map app_of commands.items ≡ map form_for forms.now) }
 {
+    let mut commands = Vec::with_capacity(alloc, forms.len())?;
     for form in forms {
-        command = with_command(alloc, command, form)?;
+        commands.push_reserved(command_of(alloc, form)?);
     }
-    Ok(command)
+    Ok(commands)
 }
