@@ -61,6 +61,19 @@ pub struct HostFile {
     pub content: Content,
 }
 
+impl HostFile {
+    /// A file of this name, with a copy of these bytes.
+    pub fn of(alloc: Global, name: &str, bytes: &[u8]) -> Result<Self, AllocError>
+        ensures { IfOk result (λ file. file
+            ≡ record { name = name.now; content = bytes.now }) }
+    {
+        Ok(HostFile {
+            name: ImageName::of(alloc, name)?,
+            content: Content::of(alloc, bytes)?,
+        })
+    }
+}
+
 /// A host file that is written beside the one whose name it is to have.
 #[derive(Drop)]
 pub struct Draft {
@@ -68,4 +81,18 @@ pub struct Draft {
     pub file: HostFile,
     /// it may take the place of a file that is there
     pub over: bool,
+}
+
+impl Draft {
+    /// A file of this name, with no bytes yet.
+    pub fn new(alloc: Global, name: &str, over: bool) -> Result<Self, AllocError>
+        ensures { IfOk result (λ draft. draft
+            ≡ record { file = record { name = name.now; content = [] }; over = over }) }
+    {
+        let file = HostFile {
+            name: ImageName::of(alloc, name)?,
+            content: Content::new(alloc),
+        };
+        Ok(Draft { file, over })
+    }
 }

@@ -60,10 +60,9 @@ impl MemHost {
         ensures calls { calls_of self.new ≡ calls_of self.old }
         ensures failing { failing_of self.new ≡ failing_of self.old }
     {
-        self.files.push(HostFile {
-            name: ImageName::of(self.alloc, name)?,
-            content: Content::of(self.alloc, bytes)?,
-        })?;
+        self.files.reserve(1)?;
+        self.files
+            .push_reserved(HostFile::of(self.alloc, name, bytes)?);
         Ok(())
     }
 
@@ -131,6 +130,16 @@ fn content<'a>(files: &'a [HostFile], name: &str) -> Option<&'a Content>
         .map(|file| &file.content)
 }
 
+// What the file of a name holds, to be read from its first byte.
+fn source(alloc: Global, files: &[HostFile], name: &str) -> Result<Option<Source>, AllocError>
+    ensures { IfOk result (λ source. source ≡ content_of name.now files.now) }
+{
+    match content(files, name) {
+        Some(content) => Ok(Some(Source::of(alloc, content.bytes())?)),
+        None => Ok(None),
+    }
+}
+
 // Whether there is a file under a name where none may be put.
 fn is_taken(files: &[HostFile], name: &str, over: bool) -> bool
     ensures { result ≡ is_taken name.now over files.now }
@@ -175,20 +184,14 @@ impl Host for MemHost {
 
         ensures called { IsCalled self.old self.new result }
     {
-        if !self.plan.goes() {
-            return Err(counted(&mut self.faults));
+        if self.plan.goes()
+            && let Ok(left) = source(self.alloc, &self.files, name)
+        {
+            let there = left.is_some();
+            self.left = left;
+            return Ok(there);
         }
-        let Some(content) = content(&self.files, name) else {
-            self.left = None;
-            return Ok(false);
-        };
-        match Source::of(self.alloc, content.bytes()) {
-            Ok(source) => {
-                self.left = Some(source);
-                Ok(true)
-            }
-            Err(_) => Err(counted(&mut self.faults)),
-        }
+        Err(counted(&mut self.faults))
     }
 
     fn read(&mut self, into: &mut [u8]) -> Result<usize, Failed>
@@ -261,13 +264,9 @@ impl Host for MemHost {
         if is_taken(&self.files, name, over) {
             return Ok(false);
         }
-        match ImageName::of(self.alloc, name) {
-            Ok(name) => {
-                let content = Content::new(self.alloc);
-                self.draft = Some(Draft {
-                    file: HostFile { name, content },
-                    over,
-                });
+        match Draft::new(self.alloc, name, over) {
+            Ok(draft) => {
+                self.draft = Some(draft);
                 Ok(true)
             }
             Err(_) => Err(counted(&mut self.faults)),

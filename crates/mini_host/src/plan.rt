@@ -44,15 +44,8 @@ impl Plan {
         ensures failing { self.new.failing.items ≡ self.old.failing.items }
     {
         self.calls = self.calls.saturating_add(1);
-        !is_planned(&self.failing, self.calls)
+        !self.failing.contains(&self.calls)
     }
-}
-
-// Whether the call with this number is to fail.
-fn is_planned(failing: &[u64], number: u64) -> bool
-    ensures { result ≡ is_planned failing.now number }
-{
-    failing.iter().any(|call| *call == number)
 }
 
 /// Counts a failure.
