@@ -12,6 +12,7 @@ mod units;
 mod words;
 
 pub use fault::WordFault;
+pub use numbers::offset;
 pub use unit::{UnitWord, block_size};
 pub use units::UnitWords;
 pub use words::{Words, read_words, word_texts};

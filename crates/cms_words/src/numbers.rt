@@ -73,7 +73,7 @@ pub fn number(word: &[u8], most: u32) -> Option<u32>
     }
 }
 
-/// The seconds that a zone adds to the clock, at most 53,940 either way: E or W, and hhmm.
+/// The seconds that a zone adds to the clock, at most 53,940 either way: E or W, and hhmm, hours to 14 and minutes to 59.
 #[tactic(auto, unfolding(crate::specs::Numbers::offset_of))]
 pub fn offset(word: &[u8]) -> Option<i32>
     ensures value { result ≡ offset_of word.now }

@@ -1,7 +1,5 @@
 // Numbers among the words, in ASCII.
-ghost use Rattle.std.specs.Prelude.{◌≡◌, ◌≤◌, ◌<◌, ◌∷◌, [], ◌^◌, IfSome};
-ghost use Rattle.cms_fields.specs.Offsets.{IsOffset};
-ghost use Rattle.cms_words.specs.Numbers.{decimal_from, offset_of};
+ghost use Rattle.std.specs.Prelude.{◌≡◌, ◌≤◌, IfSome};
 ghost use Rattle.mini_words.specs.Words.{begins_numeral, digit_in, number_of, numeral_of};
 
 // Whether a digit 1 to 9 stands first.
@@ -42,41 +40,6 @@ pub fn digit(word: &str) -> Option<u8>
 {
     match word.as_bytes() {
         [digit @ b'0'..=b'6'] => Some(*digit - b'0'),
-        _ => None,
-    }
-}
-
-// The value of two decimal digits.
-#[tactic(auto, unfolding(cms_words::specs::Numbers::decimal_from, cms_words::specs::Numbers::is_digit))]
-fn two_digits(high: u8, low: u8) -> Option<u32>
-    ensures value { result ≡ decimal_from 0 (high ∷ low ∷ []) }
-    ensures small { IfSome result (λ n. n < 100) }
-{
-    if high.is_ascii_digit() && low.is_ascii_digit() {
-        Some(u32::from(high - b'0') * 10 + u32::from(low - b'0'))
-    } else {
-        None
-    }
-}
-
-/// The seconds that a zone adds to the clock, at most 53,940 either way: E or W, and hhmm, hours to 14 and minutes to 59.
-#[tactic(auto, unfolding(cms_words::specs::Numbers::offset_of))]
-pub fn offset(word: &str) -> Option<i32>
-    ensures value { result ≡ offset_of word.now }
-    ensures within { IfSome result (λ seconds. IsOffset seconds) }
-{
-    let [side, ten_hours, hours, ten_minutes, minutes] = word.as_bytes() else {
-        return None;
-    };
-    let hours = two_digits(*ten_hours, *hours)?;
-    let minutes = two_digits(*ten_minutes, *minutes)?;
-    if hours > 14 || minutes > 59 {
-        return None;
-    }
-    let seconds = ((hours * 60 + minutes) * 60) as i32;
-    match side {
-        b'E' => Some(seconds),
-        b'W' => Some(-seconds),
         _ => None,
     }
 }

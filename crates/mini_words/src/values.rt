@@ -8,11 +8,11 @@ ghost use Rattle.mini_words.specs.Words.{blocks_of, digit_of, form_of, form_word
 
 use crate::WordFault;
 use crate::names::{label, name};
-use crate::numbers::{digit, number, offset};
+use crate::numbers::{digit, number};
 use clap::ArgMatches;
 use cms_journal::{BlockSize, MOST_BLOCKS};
 use cms_names::Name;
-use cms_words::block_size;
+use cms_words::{block_size, offset};
 use mini_forms::{Form, Layout};
 
 /// The most bytes of a record.
@@ -145,7 +145,7 @@ pub fn zone(matches: &ArgMatches<'_>) -> Result<i32, WordFault>
     let Some(word) = value(matches, "ZONE") else {
         return Ok(0);
     };
-    offset(word).ok_or(WordFault::Zone)
+    offset(word.as_bytes()).ok_or(WordFault::Zone)
 }
 
 /// The name of the one host file, where one was said.
