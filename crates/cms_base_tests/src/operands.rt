@@ -3,23 +3,21 @@
 use cms_cases::Report;
 use cms_line::{Line, Message, Tokens, tokens, write_message};
 use cms_operands::{
-    ChosenOptions, CommandFault, OptionForm, Parameter, Refusal, access_mode, chosen_options,
-    command_named, device_or_letter, ended, given_or, letter_or_all, name, name_or_all,
-    name_or_same, needed, number, number_or_all, operands, output_mode, pattern, reading_mode,
-    writing_mode,
+    AccessMode, ChosenOptions, CommandFault, CommandName, OptionForm, Parameter, ReadMode, Refusal,
+    Setting, Target, WriteMode, access_mode, chosen_options, command_named, device_or_letter,
+    ended, given_or, letter_or_all, name, name_or_all, name_or_same, needed, number, number_or_all,
+    operands, output_mode, pattern, reading_mode, writing_mode,
 };
 use cms_text::{LONGEST_TEXT, ebcdic};
 use std::alloc::Global;
 use std::process::Abort;
 
 /// `line/LINE`: the options that the line chooses, or what is typed and the code.
-/// `command/WORD`: the command that the word names. `KIND/WORD`: what the word is, read by its kind.
+/// `command/WORD`: the command that the word names. `KIND/LINE`: what the line's last word is, read by its kind.
 pub const ROWS: &str = "\
-line/X Y A 100 => []
-line/X Y A 007 ( => []
-line/x y b2 1 (ty lr 080 rec v fi 40 col 2-14) => [ChosenOption { option: TypeWord, setting: Nothing }, \
-ChosenOption { option: Lrecl, setting: Number(80) }, ChosenOption { option: Recfm, setting: Format(V) }, \
-ChosenOption { option: Fill, setting: Byte(64) }, ChosenOption { option: Col, setting: Columns(2, 14) }]
+line/X Y A 100 => chosen:
+line/X Y A 007 ( => chosen:
+line/x y b2 1 (ty lr 080 rec v fi 40 col 2-14) => chosen: TypeWord Lrecl=80 Recfm=V Fill=X'40' Col=2-14
 line/X Y! B9 0 => CMS062E Name Y! is not valid 20
 line/X Y B9 0 => CMS048E Mode B9 is not valid 24
 line/X Y B 0 => CMS070E Operand 0 is not valid 24
@@ -39,53 +37,52 @@ line/X Y A 1 (LRECL ( => CMS029E Parameter ( of option LRECL is not valid 24
 line/X Y A 1 (TYPE ( => CMS003E Option ( is not valid 24
 line/X Y A 1 (T => CMS003E Option T is not valid 24
 line/X Y A 1 (FU => CMS003E Option FU is not valid 24
-line/X Y A 1 (FUL FULLDAT fulldate => [ChosenOption { option: Fulldate, setting: Nothing }, \
-ChosenOption { option: Fulldate, setting: Nothing }, ChosenOption { option: Fulldate, setting: Nothing }]
+line/X Y A 1 (FUL FULLDAT fulldate => chosen: Fulldate Fulldate Fulldate
 line/X Y A 1 (FULLDATES => CMS003E Option FULLDATES is not valid 24
 line/X Y A 1 (TYPE) Z => CMS070E Operand Z is not valid 24
-command/A => None
-command/AC => Some(Access)
-command/RE => Some(Rename)
-command/REL => Some(Release)
-command/FORMA => None
-command/FORMAT => Some(Format)
-command/CENTURY => Some(Century)
-command/CENTUR => None
-command/Q => Some(Query)
-command/L => Some(Listfile)
-command/COP => None
-command/COPY => Some(Copyfile)
-command/ERA => Some(Erase)
-command/T => Some(TypeFile)
-command/STATE => Some(State)
-command/EXECI => None
-command/EXECIO => Some(Execio)
-command/EX => Some(Exec)
-command/EXECUTE => None
-command/P => None
-command/PU => Some(Punch)
-command/REA => None
-command/READC => Some(Readcard)
-command/DIS => None
-command/DISK => Some(Disk)
-command/ => None
-name or all/* => Ok(None)
-name or all/= => Err(BadName(1))
-name or same/= => Ok(None)
-pattern/* => true
-reading mode/* => Ok(Any)
-reading mode/= => Err(BadMode(3))
-writing mode/* => Err(BadMode(3))
-output mode/A1 => Ok(Some(WriteMode { letter: 0, number: Some(1) }))
-output mode/= => Ok(None)
-letter or all/* => Ok(None)
-letter or all/A1 => Err(BadMode(2))
-number or all/* => Ok(None)
-device or letter/A1 => Err(BadOperand(1))
-device or letter/* => Err(BadMode(1))
-device or letter/1AF => Ok(Device(431))
-access mode/B/A => Ok(AccessMode { letter: 1, ext: Some(0) })
-access mode/A1 => Err(BadMode(2))";
+command/A => no command
+command/AC => ACCESS
+command/RE => RENAME
+command/REL => RELEASE
+command/FORMA => no command
+command/FORMAT => FORMAT
+command/CENTURY => CENTURY
+command/CENTUR => no command
+command/Q => QUERY
+command/L => LISTFILE
+command/COP => no command
+command/COPY => COPYFILE
+command/ERA => ERASE
+command/T => TYPE
+command/STATE => STATE
+command/EXECI => no command
+command/EXECIO => EXECIO
+command/EX => EXEC
+command/EXECUTE => no command
+command/P => no command
+command/PU => PUNCH
+command/REA => no command
+command/READC => READCARD
+command/DIS => no command
+command/DISK => DISK
+command/ => no command
+name or all/ERASE * => None
+name or all/ERASE = => CMS062E Name = is not valid 20
+name or same/RENAME A B A = => None
+pattern/LISTFILE * => a pattern
+reading mode/STATE F T * => any
+reading mode/STATE F T = => CMS048E Mode = is not valid 24
+writing mode/ERASE F T * => CMS048E Mode * is not valid 24
+output mode/COPYFILE F T A F U A1 => letter 0, number Some(1)
+output mode/COPYFILE F T A F U = => None
+letter or all/QUERY DISK * => None
+letter or all/QUERY DISK A1 => CMS048E Mode A1 is not valid 24
+number or all/EXECIO * => None
+device or letter/RELEASE A1 => CMS070E Operand A1 is not valid 24
+device or letter/RELEASE * => CMS048E Mode * is not valid 24
+device or letter/RELEASE 1AF => device 1AF
+access mode/ACCESS 191 B/A => letter 1, behind the stroke Some(0)
+access mode/ACCESS 191 A1 => CMS048E Mode A1 is not valid 24";
 
 const A: u8 = 0xC1;
 
@@ -143,36 +140,134 @@ fn tell_refusal<R: Abort>(into: &mut Report, rt: &R, alloc: Global, words: &Toke
     write!(into, " {code}")
 }
 
+fn tell_setting(into: &mut Report, setting: Setting) {
+    match setting {
+        Setting::Nothing => {}
+        Setting::Number(number) => write!(into, "={number}"),
+        Setting::Byte(byte) => write!(into, "=X'{byte:02X}'"),
+        Setting::Format(format) => write!(into, "={format:?}"),
+        Setting::Columns(first, last) => write!(into, "={first}-{last}"),
+    }
+}
+
 // The options that a line chooses, or what is typed.
 fn tell_line<R: Abort>(into: &mut Report, rt: &R, alloc: Global, words: &Tokens) {
     match read(alloc, words) {
-        Ok(chosen) => into.value(&chosen.as_slice()),
+        Ok(options) => {
+            into.push_str("chosen:");
+            for chosen in options.as_slice() {
+                write!(into, " {:?}", chosen.option);
+                tell_setting(into, chosen.setting);
+            }
+        }
         Err(CommandFault::Refused(why)) => tell_refusal(into, rt, alloc, words, why),
         Err(CommandFault::Memory) => into.push_str("no memory"),
     }
 }
 
-// What a word is by its kind.
-fn tell_word(into: &mut Report, kind: &str, word: &[u8]) {
-    match kind {
-        "command" => into.value(&command_named(word)),
-        "name or all" => into.value(&name_or_all(1, word)),
-        "name or same" => into.value(&name_or_same(1, word)),
-        "pattern" => into.value(&pattern(1, word).is_ok()),
-        "reading mode" => into.value(&reading_mode(3, word)),
-        "writing mode" => into.value(&writing_mode(3, word)),
-        _ => tell_other_word(into, kind, word),
+// A command by its word, in full.
+fn word_of(command: CommandName) -> &'static str {
+    match command {
+        CommandName::Access => "ACCESS",
+        CommandName::Release => "RELEASE",
+        CommandName::Format => "FORMAT",
+        CommandName::Century => "CENTURY",
+        CommandName::Query => "QUERY",
+        CommandName::Listfile => "LISTFILE",
+        CommandName::Copyfile => "COPYFILE",
+        CommandName::Rename => "RENAME",
+        CommandName::Erase => "ERASE",
+        CommandName::TypeFile => "TYPE",
+        CommandName::State => "STATE",
+        CommandName::Execio => "EXECIO",
+        CommandName::Exec => "EXEC",
+        CommandName::Nucxdrop => "NUCXDROP",
+        CommandName::Nucxmap => "NUCXMAP",
+        CommandName::Punch => "PUNCH",
+        CommandName::Readcard => "READCARD",
+        CommandName::Disk => "DISK",
     }
 }
 
-fn tell_other_word(into: &mut Report, kind: &str, word: &[u8]) {
+fn tell_command(into: &mut Report, word: &[u8]) {
+    match command_named(word) {
+        Some(command) => into.push_str(word_of(command)),
+        None => into.push_str("no command"),
+    }
+}
+
+fn tell_read(into: &mut Report, mode: ReadMode) {
+    match mode {
+        ReadMode::Any => into.push_str("any"),
+        ReadMode::Letter(letter) => write!(into, "letter {letter}"),
+        ReadMode::Numbered(letter, number) => write!(into, "letter {letter}, number {number}"),
+    }
+}
+
+fn tell_written(into: &mut Report, mode: Option<WriteMode>) {
+    match mode {
+        Some(mode) => write!(into, "letter {}, number {:?}", mode.letter, mode.number),
+        None => into.push_str("None"),
+    }
+}
+
+fn tell_accessed(into: &mut Report, mode: AccessMode) {
+    write!(
+        into,
+        "letter {}, behind the stroke {:?}",
+        mode.letter, mode.ext
+    )
+}
+
+fn tell_target(into: &mut Report, target: Target) {
+    match target {
+        Target::Device(device) => write!(into, "device {device:03X}"),
+        Target::Letter(letter) => write!(into, "letter {letter}"),
+    }
+}
+
+// What a word is by its kind, where it is taken.
+fn tell_word(into: &mut Report, kind: &str, place: usize, word: &[u8]) -> Result<(), Refusal> {
     match kind {
-        "output mode" => into.value(&output_mode(6, word)),
-        "letter or all" => into.value(&letter_or_all(2, word)),
-        "number or all" => into.value(&number_or_all(0, 9, 1, word)),
-        "device or letter" => into.value(&device_or_letter(1, word)),
-        "access mode" => into.value(&access_mode(2, word)),
+        "name or all" => into.value(&name_or_all(place, word)?),
+        "name or same" => into.value(&name_or_same(place, word)?),
+        "reading mode" => tell_read(into, reading_mode(place, word)?),
+        "writing mode" => tell_written(into, Some(writing_mode(place, word)?)),
+        "output mode" => tell_written(into, output_mode(place, word)?),
+        _ => return tell_other_word(into, kind, place, word),
+    }
+    Ok(())
+}
+
+fn tell_other_word(
+    into: &mut Report,
+    kind: &str,
+    place: usize,
+    word: &[u8],
+) -> Result<(), Refusal> {
+    match kind {
+        "pattern" => {
+            pattern(place, word)?;
+            into.push_str("a pattern")
+        }
+        "letter or all" => into.value(&letter_or_all(place, word)?),
+        "number or all" => into.value(&number_or_all(0, 9, place, word)?),
+        "device or letter" => tell_target(into, device_or_letter(place, word)?),
+        "access mode" => tell_accessed(into, access_mode(place, word)?),
         _ => into.push_str("no kind"),
+    }
+    Ok(())
+}
+
+// What a line's last word is by its kind, or what is typed.
+fn tell_last_word<R: Abort>(into: &mut Report, rt: &R, alloc: Global, kind: &str, words: &Tokens) {
+    let place = words.len().saturating_sub(1);
+    let word = match words.get(place) {
+        Some(token) => token.text.bytes(),
+        None => &[],
+    };
+    if let Err(why) = tell_word(into, kind, place, word) {
+        tell_refusal(into, rt, alloc, words, why)
     }
 }
 
@@ -181,6 +276,7 @@ pub fn tell<R: Abort>(into: &mut Report, rt: &R, alloc: Global, case: &str) {
     let (kind, text) = case.split_once("/").unwrap_or((case, ""));
     match kind {
         "line" => tell_line(into, rt, alloc, &words_of(rt, alloc, text)),
-        _ => tell_word(into, kind, &ebcdic(alloc, text).expect(rt, "memory")),
+        "command" => tell_command(into, &ebcdic(alloc, text).expect(rt, "memory")),
+        _ => tell_last_word(into, rt, alloc, kind, &words_of(rt, alloc, text)),
     }
 }

@@ -3,7 +3,7 @@ ghost use Rattle.std.specs.Prelude.{◌≡◌};
 ghost use Rattle.cms_operands.specs.ReadModes.{admits, base_of};
 
 /// The disks that a search looks at, and the files that it admits. Letters are numbers, A is 0.
-#[derive(Clone, Copy, Debug)]
+#[derive(Clone, Copy)]
 pub enum ReadMode {
     /// all accessed disks, in the order of their letters
     Any,

@@ -21,7 +21,7 @@ const MOST_DIGITS: usize = 9;
 pub const LARGEST: u32 = 999_999_999;
 
 /// The disk that a command writes to, and the mode number that it gives. Letters are numbers, A is 0.
-#[derive(Clone, Copy, Debug)]
+#[derive(Clone, Copy)]
 pub struct WriteMode {
     pub letter: u8,
     /// 0 to 6, where the word has one
@@ -29,14 +29,14 @@ pub struct WriteMode {
 }
 
 /// The letter as which a disk is accessed, and the letter behind the stroke. Letters are numbers, A is 0.
-#[derive(Clone, Copy, Debug)]
+#[derive(Clone, Copy)]
 pub struct AccessMode {
     pub letter: u8,
     pub ext: Option<u8>,
 }
 
 /// What is released.
-#[derive(Clone, Copy, Debug)]
+#[derive(Clone, Copy)]
 pub enum Target {
     /// the disk of a device
     Device(u16),

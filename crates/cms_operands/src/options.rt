@@ -1,5 +1,5 @@
 // The options of a line with their parameters.
-ghost use Rattle.std.specs.Prelude.{◌≡◌, ◌+◌, ◌<◌, ◌==◌, IfOk, IfSome, drop, length, map, position};
+ghost use Rattle.std.specs.Prelude.{◌≡◌, ◌+◌, ◌<◌, ◌==◌, IfOk, IfSome, ⊤, drop, length, map, position};
 ghost use Rattle.cms_operands.specs.Choices as spec;
 ghost use Rattle.cms_operands.specs.Refusals.{text_at};
 ghost use Rattle.cms_operands.specs.declared.options.CommandFault.TheVariants as fault;
@@ -33,7 +33,7 @@ pub enum Parameter {
 
 /// How an option of a command is written: which it is, its name in EBCDIC, filled with blanks, the length of its shortest spelling, and
 /// what it takes. Each command has a type of its own for its options.
-#[derive(Clone, Copy)]
+#[derive(Copy)]
 pub struct OptionForm<O> {
     pub option: O,
     pub name: [u8; 8],
@@ -41,8 +41,18 @@ pub struct OptionForm<O> {
     pub parameter: Parameter,
 }
 
+impl<O: Copy> Clone for OptionForm<O> {
+    ghost is_clone = { λ form copy. copy ≡ form };
+
+    ghost is_infallible = { λ _. ⊤ };
+
+    fn clone(&self) -> Result<Self, AllocError> {
+        Ok(*self)
+    }
+}
+
 /// What a parameter says.
-#[derive(Clone, Copy, Debug)]
+#[derive(Clone, Copy)]
 pub enum Setting {
     /// there is none
     Nothing,
@@ -55,10 +65,20 @@ pub enum Setting {
 }
 
 /// An option that was chosen, and what its parameter says.
-#[derive(Clone, Copy, Debug)]
+#[derive(Copy)]
 pub struct ChosenOption<O> {
     pub option: O,
     pub setting: Setting,
+}
+
+impl<O: Copy> Clone for ChosenOption<O> {
+    ghost is_clone = { λ chosen copy. copy ≡ chosen };
+
+    ghost is_infallible = { λ _. ⊤ };
+
+    fn clone(&self) -> Result<Self, AllocError> {
+        Ok(*self)
+    }
 }
 
 /// The options that were chosen, in the order of the words.

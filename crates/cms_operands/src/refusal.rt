@@ -6,7 +6,7 @@ use cms_line::{Message, Token, Word};
 use std::alloc::{AllocError, Global};
 
 /// Why a line is refused, by the place of its word; the command's own word has place 0.
-#[derive(Clone, Copy, Debug)]
+#[derive(Clone, Copy)]
 pub enum Refusal {
     /// the word is no name, or no pattern
     BadName(usize),
@@ -32,6 +32,17 @@ fn text_at(alloc: Global, words: &[Token], place: usize) -> Result<Word, AllocEr
     }
 }
 
+// What is typed of a word that is no parameter of the option in front of it.
+#[tactic(auto, unfolding(crate::specs::Refusals::message_of))]
+fn bad_parameter(alloc: Global, words: &[Token], place: usize) -> Result<Message, AllocError>
+    ensures { IfOk result
+        (λ message. message ≡ message_of words.now (Refusal.BadParameter place)) }
+{
+    let option = text_at(alloc, words, place.saturating_sub(1))?;
+    let word = text_at(alloc, words, place)?;
+    Ok(Message::M029(word, option))
+}
+
 impl Refusal {
     /// The return code.
     pub fn code(self) -> i32
@@ -52,16 +63,13 @@ impl Refusal {
     pub fn message(self, alloc: Global, words: &[Token]) -> Result<Message, AllocError>
         ensures { IfOk result (λ message. message ≡ message_of words.now self) }
     {
-        Ok(match self {
-            Refusal::BadName(place) => Message::M062(text_at(alloc, words, place)?),
-            Refusal::BadMode(place) => Message::M048(text_at(alloc, words, place)?),
-            Refusal::BadOperand(place) => Message::M070(text_at(alloc, words, place)?),
-            Refusal::Missing => Message::M054,
-            Refusal::UnknownOption(place) => Message::M003(text_at(alloc, words, place)?),
-            Refusal::BadParameter(place) => Message::M029(
-                text_at(alloc, words, place)?,
-                text_at(alloc, words, place.saturating_sub(1))?,
-            ),
-        })
+        match self {
+            Refusal::BadName(place) => Ok(Message::M062(text_at(alloc, words, place)?)),
+            Refusal::BadMode(place) => Ok(Message::M048(text_at(alloc, words, place)?)),
+            Refusal::BadOperand(place) => Ok(Message::M070(text_at(alloc, words, place)?)),
+            Refusal::Missing => Ok(Message::M054),
+            Refusal::UnknownOption(place) => Ok(Message::M003(text_at(alloc, words, place)?)),
+            Refusal::BadParameter(place) => bad_parameter(alloc, words, place),
+        }
     }
 }

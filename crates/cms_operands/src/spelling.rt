@@ -6,7 +6,7 @@ use cms_line::{OptionRule, is_named};
 use cms_text::coded;
 
 /// A command.
-#[derive(Clone, Copy, Debug)]
+#[derive(Clone, Copy)]
 pub enum CommandName {
     Access,
     Release,

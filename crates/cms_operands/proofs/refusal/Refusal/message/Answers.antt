@@ -12,9 +12,3 @@ returns-in_err-text_at-in-BadOperand c = ok_at_err _ c.from_residual-in_err-text
 
 pub returns-in_err-text_at-in-UnknownOption : goal.returns-in_err-text_at-in-UnknownOption
 returns-in_err-text_at-in-UnknownOption c = ok_at_err _ c.from_residual-in_err-text_at-in-UnknownOption.result _ c.from_residual-in_err-text_at-in-UnknownOption.ensures.1
-
-pub returns-in_err-text_at-in-BadParameter : goal.returns-in_err-text_at-in-BadParameter
-returns-in_err-text_at-in-BadParameter c = ok_at_err _ c.from_residual-in_err-text_at-in-BadParameter.result _ c.from_residual-in_err-text_at-in-BadParameter.ensures.1
-
-pub returns-in_err-text_at-in-BadParameter-2 : goal.returns-in_err-text_at-in-BadParameter-2
-returns-in_err-text_at-in-BadParameter-2 c = ok_at_err _ c.from_residual-in_err-text_at-in-BadParameter-2.result _ c.from_residual-in_err-text_at-in-BadParameter-2.ensures.1
