@@ -5,4 +5,5 @@ pub mod ConsoleSteps
 pub mod Tokens
 pub mod Options
 pub mod Messages
+pub mod Phrases
 pub mod Stack

@@ -1,6 +1,7 @@
 // The messages of the commands.
-ghost use Rattle.std.specs.Prelude.{◌≡◌, ◌++◌, length, take, OnOk, OnErr};
-ghost use Rattle.cms_line.specs.Messages.{message_text, ebcdic, one, two, three};
+ghost use Rattle.std.specs.Prelude.{◌≡◌, ◌++◌, length, map, take, OnOk, OnErr};
+ghost use Rattle.cms_line.specs.Messages.{message_text};
+ghost use Rattle.cms_line.specs.Phrases.{filled, text_of};
 
 use crate::Word;
 use cms_ebcdic::from_host;
@@ -76,177 +77,129 @@ pub enum Message {
     M733(Word, Word, Word),
 }
 
-// Adds an ASCII text in EBCDIC.
-fn add_text(into: &mut Vec<u8>, text: &str) -> Result<(), AllocError>
-    ensures ok { OnOk result (into.new.items ≡ into.old.items ++ ebcdic text.now) }
+// What stands in a text for the next of its words.
+const PLACE: u8 = b'&';
+
+// What a message says: a text in ASCII, and the words that belong in its places.
+enum Phrase<'m> {
+    Text(&'static str),
+    One(&'static str, &'m Word),
+    Two(&'static str, &'m Word, &'m Word),
+    Three(&'static str, &'m Word, &'m Word, &'m Word),
+}
+
+// What a message says.
+fn phrase_of(message: &Message) -> Phrase<'_>
+    ensures { text_of result ≡ message_text message.now }
+{
+    match message {
+        Message::M001(word) => Phrase::One("CMS001E Unknown command &", word),
+        Message::M002(file, kind, mode) => Phrase::Three(
+            "CMS002E File & & & not found",
+            file,
+            kind,
+            mode,
+        ),
+        Message::M003(word) => Phrase::One("CMS003E Option & is not valid", word),
+        Message::M010 => Phrase::Text("CMS010E Line has an invalid character"),
+        Message::M011 => Phrase::Text("CMS011E Line is longer than 255 bytes"),
+        Message::M024(file, kind, mode) => Phrase::Three(
+            "CMS024E File & & & already exists",
+            file,
+            kind,
+            mode,
+        ),
+        Message::M029(word, option) => Phrase::Two(
+            "CMS029E Parameter & of option & is not valid",
+            word,
+            option,
+        ),
+        Message::M037(letter) => Phrase::One("CMS037E Disk & is read-only", letter),
+        Message::M048(word) => Phrase::One("CMS048E Mode & is not valid", word),
+        Message::M054 => Phrase::Text("CMS054E Operand is missing"),
+        Message::M062(word) => Phrase::One("CMS062E Name & is not valid", word),
+        Message::M069(letter) => Phrase::One("CMS069E Disk & is not accessed", letter),
+        Message::M070(word) => Phrase::One("CMS070E Operand & is not valid", word),
+        Message::M085(file, line, fault) => Phrase::Three(
+            "CMS085E Procedure & stopped at line & with fault &",
+            file,
+            line,
+            fault,
+        ),
+        Message::M086(file, reason) => Phrase::Two(
+            "CMS086E Procedure & is not run, reason &",
+            file,
+            reason,
+        ),
+        Message::M105(vdev) => Phrase::One("CMS105E Device fault on &", vdev),
+        Message::M106(vdev) => Phrase::One("CMS106E File contents altered on &", vdev),
+        Message::M107(letter, need, free) => Phrase::Three(
+            "CMS107E Disk & is full, & blocks needed, & free",
+            letter,
+            need,
+            free,
+        ),
+        Message::M112(vdev, reason) => Phrase::Two(
+            "CMS112E Device & holds no volume, reason &",
+            vdev,
+            reason,
+        ),
+        Message::M113(vdev) => Phrase::One("CMS113E Device & does not exist", vdev),
+        Message::M114(vdev) => Phrase::One("CMS114E Device & is too small", vdev),
+        Message::M115(vdev) => Phrase::One("CMS115E Device & is in doubt", vdev),
+        Message::M120(limit) => Phrase::One("CMS120E Limit & reached", limit),
+        Message::M121(records) => Phrase::One("CMS121E File has only & records", records),
+        Message::M122(word) => Phrase::One("CMS122E Extension & does not exist", word),
+        Message::M123 => Phrase::Text("CMS123E File has records longer than 80"),
+        Message::M124 => Phrase::Text("CMS124E Reader is empty"),
+        Message::M125 => Phrase::Text("CMS125E Deck is not a dump"),
+        Message::M603(letter, vdev) => Phrase::Two(
+            "CMS603R FORMAT will erase all files on disk & (&). Go on? Enter YES or NO",
+            letter,
+            vdev,
+        ),
+        Message::M605 => Phrase::Text("CMS605R Enter disk label"),
+        Message::M723(letter, vdev) => Phrase::Two("CMS723I & (&) R/O", letter, vdev),
+        Message::M733(blocks, letter, vdev) => Phrase::Three(
+            "CMS733I & blocks formatted on & (&)",
+            blocks,
+            letter,
+            vdev,
+        ),
+    }
+}
+
+// Adds an ASCII text in EBCDIC, each of its places filled with the next word.
+fn add_filled(into: &mut Vec<u8>, text: &str, words: &[&Word]) -> Result<(), AllocError>
+    ensures ok { OnOk result (into.new.items
+        ≡ into.old.items ++ filled text.now (map (λ word. word.now) words.now)) }
     ensures front { take (length into.old.items) into.new.items ≡ into.old.items }
 {
+    let mut nth = 0;
     for byte in text.as_bytes() {
-        into.push(from_host(*byte).unwrap_or(0))?;
+        if *byte != PLACE {
+            into.push(from_host(*byte).unwrap_or(0))?;
+            continue;
+        }
+        if let Some(word) = words.get(nth) {
+            into.extend_from_slice(word.bytes())?;
+        }
+        nth += 1;
     }
     Ok(())
 }
 
-// Adds a text, a word and a text.
-fn add_one(into: &mut Vec<u8>, head: &str, word: &Word, tail: &str) -> Result<(), AllocError>
-    ensures ok { OnOk result (into.new.items ≡ into.old.items ++ one head.now word.now tail.now) }
+// Adds what a message says, after `AllocError` a front of it.
+#[tactic(auto, unfolding(crate::specs::Phrases::text_of))]
+fn add_phrase(into: &mut Vec<u8>, phrase: Phrase<'_>) -> Result<(), AllocError>
+    ensures ok { OnOk result (into.new.items ≡ into.old.items ++ text_of phrase.entry) }
     ensures front { take (length into.old.items) into.new.items ≡ into.old.items }
 {
-    add_text(into, head)?;
-    into.extend_from_slice(word.bytes())?;
-    add_text(into, tail)
-}
-
-// Adds two words between three texts.
-fn add_two(
-    into: &mut Vec<u8>,
-    head: &str,
-    word: &Word,
-    middle: &str,
-    other: &Word,
-    tail: &str,
-) -> Result<(), AllocError>
-    ensures ok { OnOk result (into.new.items
-        ≡ into.old.items ++ two head.now word.now middle.now other.now tail.now) }
-    ensures front { take (length into.old.items) into.new.items ≡ into.old.items }
-{
-    add_text(into, head)?;
-    into.extend_from_slice(word.bytes())?;
-    add_one(into, middle, other, tail)
-}
-
-// Adds three words between four texts.
-fn add_three(
-    into: &mut Vec<u8>,
-    head: &str,
-    word: &Word,
-    middle: &str,
-    other: &Word,
-    further: &str,
-    last: &Word,
-    tail: &str,
-) -> Result<(), AllocError>
-    ensures ok { OnOk result (into.new.items ≡ into.old.items
-        ++ three head.now word.now middle.now other.now further.now last.now tail.now) }
-    ensures front { take (length into.old.items) into.new.items ≡ into.old.items }
-{
-    add_text(into, head)?;
-    into.extend_from_slice(word.bytes())?;
-    add_two(into, middle, other, further, last, tail)
-}
-
-// Adds the text of a message, after `AllocError` a front of it.
-#[tactic(auto, unfolding(crate::specs::Messages::message_text))]
-fn add_message(into: &mut Vec<u8>, message: &Message) -> Result<(), AllocError>
-    ensures ok { OnOk result (into.new.items ≡ into.old.items ++ message_text message.now) }
-    ensures front { take (length into.old.items) into.new.items ≡ into.old.items }
-{
-    match message {
-        Message::M001(word) => add_one(into, "CMS001E Unknown command ", word, ""),
-        Message::M002(file, kind, mode) => add_three(
-            into,
-            "CMS002E File ",
-            file,
-            " ",
-            kind,
-            " ",
-            mode,
-            " not found",
-        ),
-        Message::M003(word) => add_one(into, "CMS003E Option ", word, " is not valid"),
-        Message::M010 => add_text(into, "CMS010E Line has an invalid character"),
-        Message::M011 => add_text(into, "CMS011E Line is longer than 255 bytes"),
-        Message::M024(file, kind, mode) => add_three(
-            into,
-            "CMS024E File ",
-            file,
-            " ",
-            kind,
-            " ",
-            mode,
-            " already exists",
-        ),
-        Message::M029(word, option) => add_two(
-            into,
-            "CMS029E Parameter ",
-            word,
-            " of option ",
-            option,
-            " is not valid",
-        ),
-        Message::M037(letter) => add_one(into, "CMS037E Disk ", letter, " is read-only"),
-        Message::M048(word) => add_one(into, "CMS048E Mode ", word, " is not valid"),
-        Message::M054 => add_text(into, "CMS054E Operand is missing"),
-        Message::M062(word) => add_one(into, "CMS062E Name ", word, " is not valid"),
-        Message::M069(letter) => add_one(into, "CMS069E Disk ", letter, " is not accessed"),
-        Message::M070(word) => add_one(into, "CMS070E Operand ", word, " is not valid"),
-        Message::M085(file, line, fault) => add_three(
-            into,
-            "CMS085E Procedure ",
-            file,
-            " stopped at line ",
-            line,
-            " with fault ",
-            fault,
-            "",
-        ),
-        Message::M086(file, reason) => add_two(
-            into,
-            "CMS086E Procedure ",
-            file,
-            " is not run, reason ",
-            reason,
-            "",
-        ),
-        Message::M105(vdev) => add_one(into, "CMS105E Device fault on ", vdev, ""),
-        Message::M106(vdev) => add_one(into, "CMS106E File contents altered on ", vdev, ""),
-        Message::M107(letter, need, free) => add_three(
-            into,
-            "CMS107E Disk ",
-            letter,
-            " is full, ",
-            need,
-            " blocks needed, ",
-            free,
-            " free",
-        ),
-        Message::M112(vdev, reason) => add_two(
-            into,
-            "CMS112E Device ",
-            vdev,
-            " holds no volume, reason ",
-            reason,
-            "",
-        ),
-        Message::M113(vdev) => add_one(into, "CMS113E Device ", vdev, " does not exist"),
-        Message::M114(vdev) => add_one(into, "CMS114E Device ", vdev, " is too small"),
-        Message::M115(vdev) => add_one(into, "CMS115E Device ", vdev, " is in doubt"),
-        Message::M120(limit) => add_one(into, "CMS120E Limit ", limit, " reached"),
-        Message::M121(records) => add_one(into, "CMS121E File has only ", records, " records"),
-        Message::M122(word) => add_one(into, "CMS122E Extension ", word, " does not exist"),
-        Message::M123 => add_text(into, "CMS123E File has records longer than 80"),
-        Message::M124 => add_text(into, "CMS124E Reader is empty"),
-        Message::M125 => add_text(into, "CMS125E Deck is not a dump"),
-        Message::M603(letter, vdev) => add_two(
-            into,
-            "CMS603R FORMAT will erase all files on disk ",
-            letter,
-            " (",
-            vdev,
-            "). Go on? Enter YES or NO",
-        ),
-        Message::M605 => add_text(into, "CMS605R Enter disk label"),
-        Message::M723(letter, vdev) => add_two(into, "CMS723I ", letter, " (", vdev, ") R/O"),
-        Message::M733(blocks, letter, vdev) => add_three(
-            into,
-            "CMS733I ",
-            blocks,
-            " blocks formatted on ",
-            letter,
-            " (",
-            vdev,
-            ")",
-        ),
+    match phrase {
+        Phrase::Text(text) => add_filled(into, text, &[]),
+        Phrase::One(text, word) => add_filled(into, text, &[word]),
+        Phrase::Two(text, word, other) => add_filled(into, text, &[word, other]),
+        Phrase::Three(text, word, other, last) => add_filled(into, text, &[word, other, last]),
     }
 }
 
@@ -256,7 +209,7 @@ pub fn write_message(into: &mut Vec<u8>, message: &Message) -> Result<(), AllocE
     ensures err { OnErr result (into.new.items ≡ into.old.items) }
 {
     let length = into.len();
-    match add_message(into, message) {
+    match add_phrase(into, phrase_of(message)) {
         Ok(()) => Ok(()),
         Err(error) => {
             into.truncate(length);
