@@ -174,13 +174,18 @@ fn tell_climb<R: Abort>(into: &mut Report, rt: &R, alloc: Global, leaves: u32, i
     into.value(&(climbs, holds))
 }
 
+// Whether all was written, and what a world keeps.
+fn tell_kept(into: &mut Report, all: bool, world: &PlainWorld<'_>) {
+    let blocks = world.blocks.as_slice();
+    into.value(&(all, blocks.len(), blocks.get(126..), world.failures))
+}
+
 // What is written of a tree over 129 leaves where the write behind so many fails.
 fn tell_blocks<R: Abort>(into: &mut Report, rt: &R, alloc: Global, most: usize) {
     let fresh = numbers(rt, alloc, FIRST, shape(129, 128).pointers);
     let mut world = blank(alloc, most);
     let climbs = climbs(rt, alloc, &mut world, 129, 4, &fresh);
-    let count = world.blocks.len();
-    into.value(&(climbs, count, world.blocks.get(126..), world.failures))
+    tell_kept(into, climbs, &world)
 }
 
 /// Tells what a case comes to.

@@ -101,15 +101,28 @@ fn stays(code: u8) -> bool {
     fold_upper(code) == code && fold_lower(code) == code
 }
 
+// Whether the first code is that of a small letter and the last that of its capital.
+fn is_pair(small: &str, capital: u8) -> bool {
+    match byte(small) {
+        Some(small) => folds(small, capital),
+        None => false,
+    }
+}
+
+// Whether a text is one character with this code, or names the small letter of which it is the capital.
+fn fits(what: &str, last: u8) -> bool {
+    match what.strip_prefix("capital of ") {
+        Some(small) => is_pair(small, last),
+        None => has_code(what, last),
+    }
+}
+
 fn is_so(what: &str, last: u8) -> bool {
     match what {
         "outside" => from_host(last).is_none(),
         "unused" => to_host(last) == b'.',
         "no letter" => stays(last),
-        _ => match what.strip_prefix("capital of ") {
-            Some(small) => byte(small).is_some_and(|small| folds(small, last)),
-            None => has_code(what, last),
-        },
+        _ => fits(what, last),
     }
 }
 

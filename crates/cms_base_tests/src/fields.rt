@@ -1,11 +1,12 @@
 // Labels, entries, dates and moments with their answers, worked out by hand from the format's tables and the calendar.
-use cms_cases::{Report, bytes_of, number, word};
+use crate::texts::{bytes, file_name, number_at};
+use cms_cases::{Report, number, word};
 use cms_fields::{
     Entry, Label, Moment, Stamp, read_entry, read_label, read_stamp, write_entry, write_label,
     write_stamp,
 };
 use cms_journal::BlockSize;
-use cms_names::{Format, Name, NameFault, Part};
+use cms_names::Format;
 use std::alloc::Global;
 use std::process::Abort;
 
@@ -123,11 +124,13 @@ C3 D4 E2 F1 E3 C5 E2 E3 F0 F1 00 00 00 00 02 00 00 00 00 04 00 00 00 09 00 00 00
 00 00 00 00 00 00 00 00 00 00 00 00 00 00 00 00";
 
 // The entry that HELLO is.
-fn hello() -> Result<Entry, NameFault> {
-    let file = Part::read(&[0xC8, 0xC5, 0xD3, 0xD3, 0xD6])?;
-    let kind = Part::read(&[0xE3, 0xC5, 0xE7, 0xE3])?;
-    Ok(Entry {
-        name: Name { file, kind },
+fn hello<R: Abort>(rt: &R) -> Entry {
+    Entry {
+        name: file_name(
+            rt,
+            &[0xC8, 0xC5, 0xD3, 0xD3, 0xD6],
+            &[0xE3, 0xC5, 0xE7, 0xE3],
+        ),
         number: 1,
         format: Format::F,
         length: 5,
@@ -143,44 +146,54 @@ fn hello() -> Result<Entry, NameFault> {
             minute: 0,
             second: 0,
         },
-    })
+    }
 }
 
 // Puts other bytes from a place on.
 fn put(into: &mut [u8], at: usize, others: &[u8]) {
-    for (into, other) in into.iter_mut().skip(at).zip(others.iter()) {
-        *into = *other;
+    let mut place = at;
+    for other in others {
+        if place < into.len() {
+            into[place] = *other;
+        }
+        place = place.saturating_add(1);
     }
 }
 
 // Makes an edit: a place, and the bytes from there on.
-fn edit<R: Abort>(bytes: &mut [u8], rt: &R, alloc: Global, edit: &str) {
+fn edit<R: Abort>(into: &mut [u8], rt: &R, alloc: Global, edit: &str) {
     let (place, others) = edit.split_once("=").unwrap_or(("", ""));
-    let others = bytes_of(alloc, others).expect(rt, "bytes");
-    put(bytes, place.parse().unwrap_or(0), &others)
+    put(into, number(place) as usize, &bytes(rt, alloc, others))
 }
 
 // The bytes that a text says, with the edits of a case.
 fn edited<R: Abort>(rt: &R, alloc: Global, text: &str, case: &str) -> Vec<u8> {
-    let mut bytes = bytes_of(alloc, text).expect(rt, "bytes");
+    let mut bytes = bytes(rt, alloc, text);
     for word in case.split('/') {
         edit(&mut bytes, rt, alloc, word);
     }
     bytes
 }
 
-fn tell_moment<R: Abort>(into: &mut Report, rt: &R, case: &str) {
-    let seconds = word(case, 1).parse().expect(rt, "seconds");
-    let offset: i32 = word(case, 2).parse().expect(rt, "an offset");
-    let Moment {
-        year,
-        month,
-        day,
-        hour,
-        minute,
-        second,
-    } = Moment::of_epoch(seconds, offset.clamp(-54_000, 54_000));
-    into.value(&(year, month, day, hour, minute, second))
+// The moment of a second, with an offset that there may be.
+fn tell_moment(into: &mut Report, seconds: i64, offset: i32) {
+    let moment = Moment::of_epoch(seconds, offset.clamp(-54_000, 54_000));
+    into.value(&(
+        moment.year,
+        moment.month,
+        moment.day,
+        moment.hour,
+        moment.minute,
+        moment.second,
+    ))
+}
+
+fn tell_moment_of(into: &mut Report, seconds: &str, offset: &str) {
+    let offset = offset.parse().unwrap_or(i32::MAX);
+    match seconds.parse() {
+        Ok(seconds) => tell_moment(into, seconds, offset),
+        Err(_) => into.push_str("no seconds"),
+    }
 }
 
 fn tell_stamp(into: &mut Report, year: u32) {
@@ -205,52 +218,48 @@ fn tell_stamp(into: &mut Report, year: u32) {
 }
 
 // The year of the stamp that a date and its flags spell.
-fn tell_date<R: Abort>(into: &mut Report, rt: &R, alloc: Global, case: &str) {
-    let bytes = bytes_of(alloc, word(case, 1)).expect(rt, "bytes");
-    let flags: u8 = word(case, 2).parse().unwrap_or(0);
+fn tell_date(into: &mut Report, bytes: &[u8], flags: &str) {
     if bytes.len() != 6 {
         return into.push_str("other than six bytes");
     }
-    match read_stamp(&bytes, flags) {
+    match read_stamp(bytes, flags.parse().unwrap_or(0)) {
         Some(stamp) => into.value(&stamp.year),
         None => into.push_str("none"),
     }
 }
 
-fn tell_entry<R: Abort>(into: &mut Report, rt: &R, alloc: Global, case: &str) {
-    let bytes = edited(rt, alloc, HELLO, case);
+// Whether bytes are read as the entry that HELLO is.
+fn tell_entry<R: Abort>(into: &mut Report, rt: &R, bytes: &[u8]) {
     if bytes.len() < 64 {
         return into.push_str("short");
     }
-    match read_entry(&bytes, BlockSize::new(512)) {
-        Ok(entry) => into.value(&(Ok(entry) == hello())),
+    match read_entry(bytes, BlockSize::new(512)) {
+        Ok(entry) => into.value(&(entry == hello(rt))),
         Err(fault) => into.value(&fault),
     }
 }
 
-fn tell_written_entry<R: Abort>(into: &mut Report, rt: &R, alloc: Global) {
-    let wanted = bytes_of(alloc, HELLO).expect(rt, "bytes");
+// Whether that entry is written as these bytes.
+fn tell_written_entry<R: Abort>(into: &mut Report, rt: &R, wanted: &[u8]) {
+    let entry = hello(rt);
     let mut bytes = [0xFF; 64];
-    match hello() {
-        Ok(entry) if entry.number <= 6 && entry.stamp.is_valid() => {
-            write_entry(&entry, &mut bytes)
-        }
-        _ => {}
+    if entry.number <= 6 && entry.stamp.is_valid() {
+        write_entry(&entry, &mut bytes);
     }
-    into.value(&(wanted.as_slice() == bytes.as_slice()))
+    into.value(&(wanted == bytes.as_slice()))
 }
 
-fn tell_label<R: Abort>(into: &mut Report, rt: &R, alloc: Global, case: &str) {
-    let bytes = edited(rt, alloc, TEST01, case);
-    match BlockSize::of(number(word(case, 1))) {
+fn tell_label(into: &mut Report, bytes: &[u8], case: &str) {
+    match BlockSize::of(number_at(case, 1)) {
         Some(bsize) if bytes.len() >= 80 => {
-            into.value(&read_label(&bytes, bsize, number(word(case, 2))))
+            into.value(&read_label(bytes, bsize, number_at(case, 2)))
         }
         _ => into.push_str("short"),
     }
 }
 
-fn tell_written_label<R: Abort>(into: &mut Report, rt: &R, alloc: Global, case: &str) {
+// Whether a label that is written over these bytes makes them the wanted ones.
+fn tell_written_label(into: &mut Report, bytes: &mut [u8], wanted: &[u8]) {
     let label = Label {
         volid: [0xD5, 0xC5, 0xE6, 0xF0, 0xF0, 0xF2],
         bsize: 512,
@@ -258,22 +267,32 @@ fn tell_written_label<R: Abort>(into: &mut Report, rt: &R, alloc: Global, case: 
         blocks: 9,
         in_use: 0x0102_0304,
     };
-    let mut bytes = bytes_of(alloc, TEST01).expect(rt, "bytes");
     if bytes.len() >= 80 {
-        write_label(&label, &mut bytes);
+        write_label(&label, bytes);
     }
-    into.value(&(bytes == edited(rt, alloc, TEST01, case)))
+    into.value(&(&*bytes == wanted))
+}
+
+// Tells what is read and written in bytes.
+fn tell_kept<R: Abort>(into: &mut Report, rt: &R, alloc: Global, kind: &str, case: &str) {
+    match kind {
+        "entry" => tell_entry(into, rt, &edited(rt, alloc, HELLO, case)),
+        "entry is written" => tell_written_entry(into, rt, &bytes(rt, alloc, HELLO)),
+        "label" => tell_label(into, &edited(rt, alloc, TEST01, case), case),
+        _ => tell_written_label(
+            into,
+            &mut bytes(rt, alloc, TEST01),
+            &edited(rt, alloc, TEST01, case),
+        ),
+    }
 }
 
 /// Tells what a case comes to.
 pub fn tell<R: Abort>(into: &mut Report, rt: &R, alloc: Global, case: &str) {
     match word(case, 0) {
-        "moment" => tell_moment(into, rt, case),
-        "stamp" => tell_stamp(into, number(word(case, 1))),
-        "date" => tell_date(into, rt, alloc, case),
-        "entry" => tell_entry(into, rt, alloc, case),
-        "entry is written" => tell_written_entry(into, rt, alloc),
-        "label" => tell_label(into, rt, alloc, case),
-        _ => tell_written_label(into, rt, alloc, case),
+        "moment" => tell_moment_of(into, word(case, 1), word(case, 2)),
+        "stamp" => tell_stamp(into, number_at(case, 1)),
+        "date" => tell_date(into, &bytes(rt, alloc, word(case, 1)), word(case, 2)),
+        kind => tell_kept(into, rt, alloc, kind, case),
     }
 }

@@ -32,6 +32,8 @@ mod records;
 #[cfg(test)]
 mod resumes;
 #[cfg(test)]
+mod texts;
+#[cfg(test)]
 mod trees;
 #[cfg(test)]
 mod words;

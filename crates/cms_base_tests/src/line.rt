@@ -2,7 +2,6 @@
 mod cases;
 mod consoles;
 mod messages;
-mod options;
+pub mod options;
 mod stacks;
 mod typed_lines;
-mod words;

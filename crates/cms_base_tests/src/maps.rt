@@ -1,5 +1,8 @@
 // The map of a small volume, through all its calls.
-use cms_cases::{Report, number, word};
+ghost use Rattle.std.specs.Prelude.{◌≡◌, ◌≤◌, length, vec_capacity, vec_len};
+
+use crate::texts::number_at;
+use cms_cases::{Report, word};
 use cms_map::Map;
 use std::alloc::Global;
 use std::process::Abort;
@@ -33,46 +36,90 @@ bytes/00FFFF/24/1/FFFF00 => true
 bytes/FFFFFF/3/0/E00000 => true
 bytes/FFFFFF/24/4294967295/000000 => true";
 
-fn tell_used<R: Abort>(into: &mut Report, rt: &R, alloc: Global, block: u32) {
-    let map = Map::of_bytes(alloc, &[0xFC, 0x80], 9).expect(rt, "memory");
-    into.value(&((1..=9).contains(&block) && map.is_used(block)))
+// The map of 9 blocks.
+fn nine<R: Abort>(rt: &R, alloc: Global) -> Map
+    ensures { length result ≡ 9 }
+{
+    Map::of_bytes(alloc, &[0xFC, 0x80], 9).expect(rt, "memory")
 }
 
-fn tell_taken<R: Abort>(into: &mut Report, rt: &R, alloc: Global) {
-    let mut map = Map::of_bytes(alloc, &[0xFC, 0x80], 9).expect(rt, "memory");
-    let mut blocks = Vec::with_capacity(alloc, 3).expect(rt, "memory");
+fn tell_used(into: &mut Report, map: &Map, block: u32)
+    requires { length map.now ≡ 9 }
+{
+    into.value(&(block >= 1 && block <= 9 && map.is_used(block)))
+}
+
+// Room for so many blocks.
+fn room<R: Abort>(rt: &R, alloc: Global, count: usize) -> Vec<u32>
+    ensures none { vec_len result ≡ 0 }
+    ensures room { count ≤ vec_capacity result }
+{
+    Vec::with_capacity(alloc, count).expect(rt, "memory")
+}
+
+fn take(into: &mut Report, map: &mut Map, blocks: &mut Vec<u32>)
+    requires none { vec_len blocks.old ≡ 0 }
+    requires room { 3 ≤ vec_capacity blocks.old }
+{
     let free = map.free_count();
-    let two = map.take_lowest(2, &mut blocks);
+    let two = map.take_lowest(2, blocks);
     let left = map.free_count();
-    let third = map.take_lowest(1, &mut blocks);
+    let third = map.take_lowest(1, blocks);
     into.value(&(free, two, left, third, blocks.as_slice()))
 }
 
-fn tell_released<R: Abort>(into: &mut Report, rt: &R, alloc: Global) {
-    let mut map = Map::of_bytes(alloc, &[0xFF, 0xC0], 10).expect(rt, "memory");
+fn tell_taken<R: Abort>(into: &mut Report, rt: &R, alloc: Global) {
+    let mut blocks = room(rt, alloc, 3);
+    take(into, &mut nine(rt, alloc), &mut blocks)
+}
+
+fn release(into: &mut Report, map: &mut Map)
+    requires { length map.old ≡ 10 }
+{
     map.release(10);
     map.release(6);
     map.release(10);
     into.value(&(map.free_count(), map.is_used(6), map.is_used(7)))
 }
 
+fn tell_released<R: Abort>(into: &mut Report, rt: &R, alloc: Global) {
+    let mut map = Map::of_bytes(alloc, &[0xFF, 0xC0], 10).expect(rt, "memory");
+    release(into, &mut map)
+}
+
+fn take_again(into: &mut Report, map: &mut Map, blocks: &mut Vec<u32>)
+    requires blocks { length map.old ≡ 24 }
+    requires none { vec_len blocks.old ≡ 0 }
+    requires room { 5 ≤ vec_capacity blocks.old }
+{
+    let _three = map.take_lowest(3, blocks);
+    map.release(6);
+    let _two = map.take_lowest(2, blocks);
+    into.value(&blocks.as_slice())
+}
+
 fn tell_again<R: Abort>(into: &mut Report, rt: &R, alloc: Global) {
     let mut map = Map::of_bytes(alloc, &[0, 0, 0], 24).expect(rt, "memory");
-    let mut blocks = Vec::with_capacity(alloc, 5).expect(rt, "memory");
-    let _three = map.take_lowest(3, &mut blocks);
-    map.release(6);
-    let _two = map.take_lowest(2, &mut blocks);
-    into.value(&blocks.as_slice())
+    take_again(into, &mut map, &mut room(rt, alloc, 5))
+}
+
+// The data blocks that a block, block 1 and it again touch.
+fn touch(into: &mut Report, map: &Map, touched: &mut Vec<u32>, block: u32)
+    requires blocks { length map.now ≡ 8192 }
+    requires one { vec_len touched.old ≡ 1 }
+    requires room { 3 ≤ vec_capacity touched.old }
+{
+    if block >= 1 && block <= 8192 {
+        map.touched(&[block, 1, block], 512, touched);
+    }
+    into.value(&touched.as_slice())
 }
 
 fn tell_touched<R: Abort>(into: &mut Report, rt: &R, alloc: Global, block: u32) {
     let map = Map::of_bytes(alloc, &[0; 1024], 8192).expect(rt, "memory");
-    let mut touched = Vec::with_capacity(alloc, 3).expect(rt, "memory");
+    let mut touched = room(rt, alloc, 3);
     touched.push(9).expect(rt, "memory");
-    if (1..=8192).contains(&block) {
-        map.touched(&[block, 1, block], 512, &mut touched);
-    }
-    into.value(&touched.as_slice())
+    touch(into, &map, &mut touched, block)
 }
 
 // The three bytes that six hexadecimal digits say.
@@ -82,24 +129,35 @@ fn three<R: Abort>(rt: &R, digits: &str) -> [u8; 3] {
     [first, second, third]
 }
 
-fn tell_given<R: Abort>(into: &mut Report, rt: &R, alloc: Global, case: &str) {
-    let blocks = number(word(case, 2)).min(24);
-    let map = Map::of_bytes(alloc, &three(rt, word(case, 1)), blocks).expect(rt, "memory");
+// Whether three bytes are what a map gives from a place on.
+fn tell_bytes(into: &mut Report, map: &Map, from: u32, wanted: [u8; 3]) {
     let mut given = [7; 3];
-    map.clone()
-        .expect(rt, "memory")
-        .put_bytes(number(word(case, 3)), &mut given);
-    into.value(&(given == three(rt, word(case, 4))))
+    map.put_bytes(from, &mut given);
+    into.value(&(given == wanted))
+}
+
+fn tell_given<R: Abort>(into: &mut Report, rt: &R, alloc: Global, case: &str) {
+    let blocks = number_at(case, 2).min(24);
+    let map = Map::of_bytes(alloc, &three(rt, word(case, 1)), blocks).expect(rt, "memory");
+    let copy = map.clone().expect(rt, "memory");
+    tell_bytes(into, &copy, number_at(case, 3), three(rt, word(case, 4)))
+}
+
+// Tells what comes of blocks that are taken and released.
+fn tell_changed<R: Abort>(into: &mut Report, rt: &R, alloc: Global, what: &str) {
+    match what {
+        "taken" => tell_taken(into, rt, alloc),
+        "released" => tell_released(into, rt, alloc),
+        _ => tell_again(into, rt, alloc),
+    }
 }
 
 /// Tells what a case comes to.
 pub fn tell<R: Abort>(into: &mut Report, rt: &R, alloc: Global, case: &str) {
     match word(case, 0) {
-        "used" => tell_used(into, rt, alloc, number(word(case, 1))),
-        "taken" => tell_taken(into, rt, alloc),
-        "released" => tell_released(into, rt, alloc),
-        "again" => tell_again(into, rt, alloc),
-        "touched" => tell_touched(into, rt, alloc, number(word(case, 1))),
-        _ => tell_given(into, rt, alloc, case),
+        "used" => tell_used(into, &nine(rt, alloc), number_at(case, 1)),
+        "touched" => tell_touched(into, rt, alloc, number_at(case, 1)),
+        "bytes" => tell_given(into, rt, alloc, case),
+        what => tell_changed(into, rt, alloc, what),
     }
 }

@@ -1,7 +1,8 @@
 // Words and what they spell, as the manuals' examples and the product's own rules have them.
+use crate::texts::{coded, file_name};
 use cms_cases::{Report, byte, word};
 use cms_names::{ModeWord, Name, NameFault, OutId, Part, Pattern, equal_signs, is_name_character};
-use cms_text::{ebcdic, without_trailing_blanks};
+use cms_text::without_trailing_blanks;
 use std::alloc::Global;
 use std::process::Abort;
 
@@ -105,13 +106,6 @@ fn fits(pattern: &[u8], text: &[u8]) -> Result<bool, NameFault> {
     Ok(pattern.fits(&part))
 }
 
-// The name A B.
-fn name() -> Result<Name, NameFault> {
-    let file = Part::read(&[0xC1])?;
-    let kind = Part::read(&[0xC2])?;
-    Ok(Name { file, kind })
-}
-
 // The parts of a name, each filled with blanks.
 fn parts(name: &Name) -> [u8; 16] {
     let mut parts = [0; 16];
@@ -121,33 +115,40 @@ fn parts(name: &Name) -> [u8; 16] {
 }
 
 // The name that an output makes of the name A B, as it is written.
-fn tell_made(into: &mut Report, to: &OutId) {
-    match name() {
-        Ok(from) => {
-            let parts = parts(&equal_signs(&from, to));
-            into.ascii(without_trailing_blanks(&parts))
-        }
-        Err(fault) => into.value(&fault),
-    }
+fn tell_made(into: &mut Report, from: &Name, to: &OutId) {
+    let parts = parts(&equal_signs(from, to));
+    into.ascii(without_trailing_blanks(&parts))
 }
 
 // The same of two words.
-fn tell_output(into: &mut Report, first: &[u8], second: &[u8]) {
+fn tell_output(into: &mut Report, from: &Name, first: &[u8], second: &[u8]) {
     match OutId::read(first, second) {
-        Ok(to) => tell_made(into, &to),
+        Ok(to) => tell_made(into, from, &to),
         Err(fault) => into.value(&fault),
     }
 }
 
-fn tell_words(into: &mut Report, what: &str, first: &[u8], second: &[u8]) {
+// Whether two words are the same part.
+fn tell_same(into: &mut Report, first: &[u8], second: &[u8]) {
+    into.value(&(Part::read(first) == Part::read(second)))
+}
+
+// What one word is.
+fn tell_word(into: &mut Report, what: &str, text: &[u8]) {
     match what {
-        "part" => tell_part(into, first),
-        "filled" => tell_filled(into, first),
-        "same" => into.value(&(Part::read(first) == Part::read(second))),
-        "pattern" => into.value(&fits(first, second)),
-        "mode" => into.value(&ModeWord::read(first)),
-        "output" => tell_output(into, first, second),
+        "part" => tell_part(into, text),
+        "filled" => tell_filled(into, text),
+        "mode" => into.value(&ModeWord::read(text)),
         _ => into.value(&what),
+    }
+}
+
+fn tell_words<R: Abort>(into: &mut Report, rt: &R, what: &str, first: &[u8], second: &[u8]) {
+    match what {
+        "same" => tell_same(into, first, second),
+        "pattern" => into.value(&fits(first, second)),
+        "output" => tell_output(into, &file_name(rt, &[0xC1], &[0xC2]), first, second),
+        _ => tell_word(into, what, first),
     }
 }
 
@@ -160,10 +161,14 @@ fn tell_character(into: &mut Report, code: &str) {
 
 /// Tells what a case comes to.
 pub fn tell<R: Abort>(into: &mut Report, rt: &R, alloc: Global, case: &str) {
-    if let Some(code) = case.strip_prefix("character/") {
-        return tell_character(into, code);
+    match word(case, 0) {
+        "character" => tell_character(into, word(case, 1)),
+        what => tell_words(
+            into,
+            rt,
+            what,
+            &coded(rt, alloc, word(case, 1)),
+            &coded(rt, alloc, word(case, 2)),
+        ),
     }
-    let first = ebcdic(alloc, word(case, 1)).expect(rt, "memory");
-    let second = ebcdic(alloc, word(case, 2)).expect(rt, "memory");
-    tell_words(into, word(case, 0), &first, &second)
 }

@@ -1,14 +1,15 @@
 // Lines of a command with a name, a mode and a number, and what is typed where they are refused; written by hand from the manual's
 // order of refusals.
+use crate::line::options::words_of;
+use crate::texts::coded;
 use cms_cases::Report;
-use cms_line::{Line, Message, Tokens, tokens, write_message};
+use cms_line::{Message, Tokens, write_message};
 use cms_operands::{
     AccessMode, ChosenOptions, CommandFault, CommandName, OptionForm, Parameter, ReadMode, Refusal,
     Setting, Target, WriteMode, access_mode, chosen_options, command_named, device_or_letter,
     ended, given_or, letter_or_all, name, name_or_all, name_or_same, needed, number, number_or_all,
     operands, output_mode, pattern, reading_mode, writing_mode,
 };
-use cms_text::{LONGEST_TEXT, ebcdic};
 use std::alloc::Global;
 use std::process::Abort;
 
@@ -86,12 +87,6 @@ access mode/ACCESS 191 A1 => CMS048E Mode A1 is not valid 24";
 
 const A: u8 = 0xC1;
 
-fn words_of<R: Abort>(rt: &R, alloc: Global, text: &str) -> Tokens {
-    let mut bytes = ebcdic(alloc, text).expect(rt, "memory");
-    bytes.truncate(LONGEST_TEXT);
-    tokens(alloc, &Line::take(bytes)).expect(rt, "memory")
-}
-
 #[derive(Clone, Copy, Debug)]
 enum LineOption {
     TypeWord,
@@ -137,7 +132,8 @@ fn tell_refusal<R: Abort>(into: &mut Report, rt: &R, alloc: Global, words: &Toke
     let code = why.code();
     let message = why.message(alloc, words.as_slice()).expect(rt, "memory");
     push_message(into, rt, alloc, message);
-    write!(into, " {code}")
+    into.push(' ');
+    into.value(&code)
 }
 
 fn tell_setting(into: &mut Report, setting: Setting) {
@@ -276,7 +272,7 @@ pub fn tell<R: Abort>(into: &mut Report, rt: &R, alloc: Global, case: &str) {
     let (kind, text) = case.split_once("/").unwrap_or((case, ""));
     match kind {
         "line" => tell_line(into, rt, alloc, &words_of(rt, alloc, text)),
-        "command" => tell_command(into, &ebcdic(alloc, text).expect(rt, "memory")),
+        "command" => tell_command(into, &coded(rt, alloc, text)),
         _ => tell_last_word(into, rt, alloc, kind, &words_of(rt, alloc, text)),
     }
 }

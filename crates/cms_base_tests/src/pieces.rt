@@ -1,8 +1,9 @@
 // Records whose bytes come in pieces.
-use cms_cases::{Report, bytes_of, number, word};
+use crate::texts::{bytes, number_at};
+use cms_cases::{Report, number, word};
 use cms_journal::BlockSize;
 use cms_records::{RecordState, VarFault, VarScan, VarSizes, put_var};
-use std::alloc::{AllocError, Global};
+use std::alloc::Global;
 use std::process::Abort;
 
 /// `varying`, `long`, `fixed`: how far each piece is fed, or the fault.
@@ -89,27 +90,36 @@ fn sizes(count: u32, first: &[u8], second: &[u8]) -> Result<VarSizes, VarFault> 
     scan.end()
 }
 
-fn piece(alloc: Global, text: &str) -> Result<Vec<u8>, AllocError> {
+fn piece<R: Abort>(rt: &R, alloc: Global, text: &str) -> Vec<u8> {
     match text {
-        "512 zeros" => vec![in alloc; 0; 512],
-        _ => bytes_of(alloc, text),
+        "512 zeros" => vec![in alloc; 0; 512].expect(rt, "memory"),
+        _ => bytes(rt, alloc, text),
     }
 }
 
 fn tell_sizes<R: Abort>(into: &mut Report, rt: &R, alloc: Global, case: &str) {
-    let first = piece(alloc, word(case, 2)).expect(rt, "bytes");
-    let second = piece(alloc, word(case, 3)).expect(rt, "bytes");
-    into.value(&sizes(number(word(case, 1)), &first, &second))
+    into.value(&sizes(
+        number_at(case, 1),
+        &piece(rt, alloc, word(case, 2)),
+        &piece(rt, alloc, word(case, 3)),
+    ))
+}
+
+// Tells how far pieces are fed.
+fn tell_fed<R: Abort>(into: &mut Report, rt: &R, alloc: Global, what: &str) {
+    match what {
+        "varying" => tell_varying(into, rt, alloc),
+        "long" => tell_long(into, rt, alloc),
+        "fixed" => tell_fixed(into, rt, alloc),
+        _ => tell_refused(into, rt, alloc),
+    }
 }
 
 /// Tells what a case comes to.
 pub fn tell<R: Abort>(into: &mut Report, rt: &R, alloc: Global, case: &str) {
     match word(case, 0) {
-        "varying" => tell_varying(into, rt, alloc),
-        "long" => tell_long(into, rt, alloc),
-        "fixed" => tell_fixed(into, rt, alloc),
-        "refused" => tell_refused(into, rt, alloc),
         "start" => tell_start(into, rt, alloc, word(case, 1)),
-        _ => tell_sizes(into, rt, alloc, case),
+        "sizes" => tell_sizes(into, rt, alloc, case),
+        what => tell_fed(into, rt, alloc, what),
     }
 }

@@ -92,18 +92,25 @@ impl World for PlainWorld<'_> {
     }
 }
 
-/// The bytes of a block, where it was written once.
-pub fn written_once<'a>(world: &'a PlainWorld<'_>, number: u32) -> Option<&'a [u8]> {
+// The place of a number that stands there once.
+fn place_of(numbers: &[u32], number: u32) -> Option<usize> {
     let mut found = None;
-    for (block, bytes) in world.blocks.iter().zip(world.bytes.chunks(512)) {
-        if *block == number {
+    for place in 0..numbers.len() {
+        if numbers[place] == number {
             if found.is_some() {
                 return None;
             }
-            found = Some(bytes);
+            found = Some(place);
         }
     }
     found
+}
+
+/// The bytes of a block, where it was written once.
+pub fn written_once<'a>(world: &'a PlainWorld<'_>, number: u32) -> Option<&'a [u8]> {
+    let place = place_of(&world.blocks, number)?;
+    let start = place.saturating_mul(512);
+    world.bytes.get(start..start.saturating_add(512))
 }
 
 // A world with this script in pieces, of whose calls the one with this number fails, from 1. It takes so many blocks.

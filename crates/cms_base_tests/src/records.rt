@@ -1,5 +1,6 @@
 // Records in bytes, through all the calls.
-use cms_cases::{Report, bytes_of, number, word};
+use crate::texts::{bytes, number_at};
+use cms_cases::{Report, word};
 use cms_journal::BlockSize;
 use cms_records::{FixedView, VarFault, VarView, fit, put_var, var_check};
 use std::alloc::Global;
@@ -32,9 +33,15 @@ fn two_records<R: Abort>(rt: &R, alloc: Global) -> Vec<u8> {
     bytes
 }
 
-fn tell_put<R: Abort>(into: &mut Report, rt: &R, alloc: Global) {
-    let bytes = two_records(rt, alloc);
+fn tell_put(into: &mut Report, bytes: &[u8]) {
     into.value(&(bytes.len(), bytes.get(..2), bytes.get(511..)))
+}
+
+// The longest of records, and the records.
+fn tell_view(into: &mut Report, longest: Result<u32, VarFault>, view: &mut VarView<'_>) {
+    let first = view.next().unwrap_or(b"").len();
+    let second = view.next();
+    into.value(&(longest, first, second, view.next(), view.next()))
 }
 
 // The longest of two records in two blocks, and the records.
@@ -44,28 +51,24 @@ fn tell_records(into: &mut Report, bytes: &[u8]) {
     }
     let longest = var_check(bytes, 2, BlockSize::new(512));
     match VarView::new(bytes, 2, BlockSize::new(512)) {
-        Ok(mut view) => {
-            let first = view.next().map_or(0, |text| text.len());
-            let second = view.next();
-            into.value(&(longest, first, second, view.next(), view.next()))
-        }
+        Ok(mut view) => tell_view(into, longest, &mut view),
         Err(fault) => into.value(&fault),
     }
 }
 
 // Both records, in two blocks.
-fn tell_read<R: Abort>(into: &mut Report, rt: &R, alloc: Global) {
+fn two_blocks<R: Abort>(rt: &R, alloc: Global) -> Vec<u8> {
     let mut bytes = two_records(rt, alloc);
     bytes.resize(1024, 0).expect(rt, "memory");
-    tell_records(into, &bytes)
+    bytes
 }
 
-fn tell_fitted<R: Abort>(into: &mut Report, rt: &R, alloc: Global) {
+fn fitted<R: Abort>(rt: &R, alloc: Global) -> Vec<u8> {
     let mut bytes = Vec::new(alloc);
-    for size in [0, 2, 3, 5] {
-        fit(&mut bytes, &[7, 8, 9], size, 0x40).expect(rt, "memory");
+    for size in &[0, 2, 3, 5] {
+        fit(&mut bytes, &[7, 8, 9], *size, 0x40).expect(rt, "memory");
     }
-    into.value(&bytes)
+    bytes
 }
 
 fn tell_cut(into: &mut Report) {
@@ -81,25 +84,27 @@ fn longest(bytes: &[u8], count: u32) -> Result<u32, VarFault> {
     var_check(bytes, count, BlockSize::new(512))
 }
 
-fn tell_longest<R: Abort>(into: &mut Report, rt: &R, alloc: Global, case: &str) {
-    let bytes = bytes_of(alloc, word(case, 2)).expect(rt, "bytes");
-    into.value(&longest(&bytes, number(word(case, 1))))
-}
-
 fn tell_zeros(into: &mut Report, count: u32) {
     let zeros = [0; 512];
     let count = count.min(512) as usize;
     into.value(&longest(&zeros[..count], 0))
 }
 
+// Tells what is put, read, fitted and cut.
+fn tell_made<R: Abort>(into: &mut Report, rt: &R, alloc: Global, what: &str) {
+    match what {
+        "put" => tell_put(into, &two_records(rt, alloc)),
+        "read" => tell_records(into, &two_blocks(rt, alloc)),
+        "fitted" => into.value(&fitted(rt, alloc)),
+        _ => tell_cut(into),
+    }
+}
+
 /// Tells what a case comes to.
 pub fn tell<R: Abort>(into: &mut Report, rt: &R, alloc: Global, case: &str) {
     match word(case, 0) {
-        "put" => tell_put(into, rt, alloc),
-        "read" => tell_read(into, rt, alloc),
-        "fitted" => tell_fitted(into, rt, alloc),
-        "cut" => tell_cut(into),
-        "zeros" => tell_zeros(into, number(word(case, 1))),
-        _ => tell_longest(into, rt, alloc, case),
+        "zeros" => tell_zeros(into, number_at(case, 1)),
+        "bytes" => into.value(&longest(&bytes(rt, alloc, word(case, 2)), number_at(case, 1))),
+        what => tell_made(into, rt, alloc, what),
     }
 }

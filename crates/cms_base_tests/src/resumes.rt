@@ -4,7 +4,8 @@ ghost use Rattle.cms_model.specs.Sizes.{pointer_count};
 
 use crate::climbs::{FIRST, add_leaves, climbs, holds, mark_of, numbers};
 use crate::plain_world::{PlainWorld, blank};
-use cms_cases::{Report, number, word};
+use crate::texts::number_at;
+use cms_cases::{Report, word};
 use cms_journal::BlockSize;
 use cms_tree::{Climb, shape};
 use std::alloc::Global;
@@ -139,9 +140,9 @@ fn trees_of(case: &str) -> Resumed
     ensures { (result.psize ≡ 4) ⊎ (result.psize ≡ 12) }
 {
     Resumed {
-        before: number(word(case, 1)),
-        kept: number(word(case, 2)),
-        leaves: number(word(case, 3)),
+        before: number_at(case, 1),
+        kept: number_at(case, 2),
+        leaves: number_at(case, 3),
         psize: if word(case, 4) == "12" { 12 } else { 4 },
     }
 }

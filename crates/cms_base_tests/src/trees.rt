@@ -4,9 +4,10 @@ ghost use Rattle.cms_journal.specs.Journal.{HasBlocks};
 ghost use Rattle.cms_world.specs.Mem.{journal_of};
 
 use crate::climbs::numbers;
-use cms_cases::{Report, number, word};
+use crate::texts::number_at;
+use cms_cases::{Report, word};
 use cms_journal::BlockSize;
-use cms_tree::{Mark, TreeAt, build, leaves, left_out, path, shape};
+use cms_tree::{Mark, TreeAt, TreeFault, build, leaves, left_out, path, shape};
 use cms_world::{Access, MemWorld, Unit, World};
 use std::alloc::Global;
 use std::process::Abort;
@@ -72,7 +73,7 @@ fn tell_marks(into: &mut Report) {
             &mut block,
         );
     }
-    into.value(&(block.get(..24), block[24..].iter().all(|byte| *byte == 0)))
+    into.value(&(block.get(..24), block[24..] == [0; 488]))
 }
 
 // The data blocks of a tree: block 4, and blocks 7 to 48.
@@ -120,6 +121,19 @@ fn attach(world: &mut MemWorld) -> Option<Unit>
     }
 }
 
+// How a tree was read: the answer, both lists, and how many calls there were.
+fn tell_found(
+    into: &mut Report,
+    answer: Result<(), TreeFault>,
+    pointers: &[u32],
+    found: &[u32],
+    calls: usize,
+) {
+    let count = found.len();
+    let are_built = found.get(1..) == data_blocks().get(..count.saturating_sub(1));
+    into.value(&(answer, pointers, found.first(), count, are_built, calls))
+}
+
 // Reads a tree, behind a number in each list.
 fn tell_read<R: Abort>(into: &mut Report, rt: &R, alloc: Global, world: &mut MemWorld, at: &TreeAt)
     requires some { 1 ≤ at.now.count }
@@ -130,16 +144,7 @@ fn tell_read<R: Abort>(into: &mut Report, rt: &R, alloc: Global, world: &mut Mem
     let mut pointers = vec![in alloc; 1].expect(rt, "memory");
     let mut found = vec![in alloc; 2].expect(rt, "memory");
     let answer = leaves(alloc, world, at, &mut pointers, &mut found);
-    let count = found.len();
-    let are_built = found.get(1..) == data_blocks().get(..count.saturating_sub(1));
-    into.value(&(
-        answer,
-        pointers.as_slice(),
-        found.first(),
-        count,
-        are_built,
-        world.calls().len(),
-    ))
+    tell_found(into, answer, &pointers, &found, world.calls().len())
 }
 
 // A world that has the image, of whose calls one fails.
@@ -154,7 +159,7 @@ fn world_of<R: Abort>(rt: &R, alloc: Global, failing: u32) -> MemWorld {
 
 // How a tree is read in a world.
 fn tell_tree<R: Abort>(into: &mut Report, rt: &R, alloc: Global, world: &mut MemWorld, case: &str) {
-    let count = number(word(case, 2));
+    let count = number_at(case, 2);
     match attach(world) {
         Some(unit) if count >= 1 => {
             let at = TreeAt {
@@ -162,7 +167,7 @@ fn tell_tree<R: Abort>(into: &mut Report, rt: &R, alloc: Global, world: &mut Mem
                 bsize: BlockSize::new(512),
                 volume: unit.blocks,
                 holder: 3,
-                root: number(word(case, 1)),
+                root: number_at(case, 1),
                 count,
                 psize: 12,
                 first: word(case, 3).parse().ok(),
@@ -171,6 +176,10 @@ fn tell_tree<R: Abort>(into: &mut Report, rt: &R, alloc: Global, world: &mut Mem
         }
         _ => into.push_str("no tree"),
     }
+}
+
+fn tell_both(into: &mut Report, blocks: &[u32], left: &[u32]) {
+    into.value(&(blocks, left))
 }
 
 fn tell_path<R: Abort>(
@@ -191,25 +200,25 @@ fn tell_path<R: Abort>(
     let mut left = Vec::with_capacity(alloc, olds.len()).expect(rt, "memory");
     path(before, &olds, count, fan, &[written], &fresh, &mut blocks);
     left_out(before, &olds, count, fan, &[written], &mut left);
-    into.value(&(blocks.as_slice(), left.as_slice()))
+    tell_both(into, &blocks, &left)
 }
 
 /// Tells what a case comes to.
 pub fn tell<R: Abort>(into: &mut Report, rt: &R, alloc: Global, case: &str) {
     match word(case, 0) {
-        "shape" => tell_shape(into, number(word(case, 1)), number(word(case, 2))),
+        "shape" => tell_shape(into, number_at(case, 1), number_at(case, 2)),
         "marks" => tell_marks(into),
         "path" => tell_path(
             into,
             rt,
             alloc,
-            number(word(case, 1)),
-            number(word(case, 2)),
-            number(word(case, 3)),
-            number(word(case, 4)),
+            number_at(case, 1),
+            number_at(case, 2),
+            number_at(case, 3),
+            number_at(case, 4),
         ),
         _ => {
-            let mut world = world_of(rt, alloc, number(word(case, 4)));
+            let mut world = world_of(rt, alloc, number_at(case, 4));
             tell_tree(into, rt, alloc, &mut world, case);
             drop(world)
         }

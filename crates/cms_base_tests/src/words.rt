@@ -159,17 +159,19 @@ no words => (1, Syntax)";
 
 fn argv<R: Abort>(rt: &R, alloc: Global, case: &str) -> Argv {
     let mut words = Argv::new(alloc);
-    if case != "no words" {
-        for word in case.split('/') {
-            words.push(word).expect(rt, "memory");
-        }
+    for word in case.split('/') {
+        words.push(word).expect(rt, "memory");
     }
     words
 }
 
 fn push_unit(into: &mut Report, unit: &UnitWord) {
-    let (bsize, name) = (unit.bsize.bytes(), unit.name.text());
-    write!(into, " {:03X},{bsize},{:?},{name}", unit.vdev, unit.access)
+    write!(into, " {:03X},", unit.vdev);
+    into.value(&unit.bsize.bytes());
+    into.push(',');
+    into.value(&unit.access);
+    into.push(',');
+    into.push_str(unit.name.text())
 }
 
 fn push_words(into: &mut Report, words: &Words) {
@@ -181,10 +183,17 @@ fn push_words(into: &mut Report, words: &Words) {
     }
 }
 
-/// Tells what a case comes to.
-pub fn tell<R: Abort>(into: &mut Report, rt: &R, alloc: Global, case: &str) {
-    match read_words(alloc, &argv(rt, alloc, case)) {
+fn tell_words(into: &mut Report, alloc: Global, words: &Argv) {
+    match read_words(alloc, words) {
         Ok(words) => push_words(into, &words),
         Err(fault) => into.value(&(fault.number(), fault)),
+    }
+}
+
+/// Tells what a case comes to.
+pub fn tell<R: Abort>(into: &mut Report, rt: &R, alloc: Global, case: &str) {
+    match case {
+        "no words" => tell_words(into, alloc, &Argv::new(alloc)),
+        _ => tell_words(into, alloc, &argv(rt, alloc, case)),
     }
 }

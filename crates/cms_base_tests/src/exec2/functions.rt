@@ -1,43 +1,52 @@
 // Calls of the functions, and what is read and written for them, by the rules of VM/SP EXEC 2.
-use crate::exec2::shared::{coded, push_quoted, word};
+use crate::exec2::shared::push_quoted;
+use crate::texts::{letters, short};
 use cms_cases::Report;
-use cms_text::{WordList, number, written};
+use cms_text::{Word, WordList, number, written};
 use exec2_funcs::{Function, call};
 use std::alloc::Global;
 use std::process::Abort;
 
 // The function of a name, if there is one.
 fn named<R: Abort>(rt: &R, alloc: Global, name: &str) -> Option<Function> {
-    Function::read(coded(rt, alloc, name).as_slice())
+    Function::read(&letters(rt, alloc, name))
 }
 
 fn words_of<R: Abort>(rt: &R, alloc: Global, text: &str) -> WordList {
     let mut words = WordList::new(alloc);
     for part in text.split('/') {
-        words.push(word(rt, alloc, part)).expect(rt, "memory");
+        words.push(short(rt, alloc, part)).expect(rt, "memory");
     }
     words
 }
 
-// What a function answers to its words: the value, or the fault.
-fn tell_call<R: Abort>(into: &mut Report, rt: &R, alloc: Global, name: &str, words: &WordList) {
-    let Some(function) = named(rt, alloc, name) else {
-        return into.push_str("no function");
-    };
+// The value or the fault that a function answers to its words.
+fn tell_answer(into: &mut Report, alloc: Global, function: Function, words: &WordList) {
     match call(alloc, function, words) {
         Ok(word) => push_quoted(into, &word),
         Err(fault) => into.value(&fault),
     }
 }
 
+// What the function of a name answers to its words.
+fn tell_call<R: Abort>(into: &mut Report, rt: &R, alloc: Global, name: &str, words: &WordList) {
+    match named(rt, alloc, name) {
+        Some(function) => tell_answer(into, alloc, function, words),
+        None => into.push_str("no function"),
+    }
+}
+
 // A number as it is written, if it is read so too.
-fn tell_number<R: Abort>(into: &mut Report, rt: &R, alloc: Global, text: &str) {
-    let value = text.parse::<i64>().expect(rt, "a number");
-    let word = written(alloc, value).expect(rt, "memory");
+fn tell_written(into: &mut Report, value: i64, word: &Word) {
     if number(word.bytes()) != Some(value) {
         return into.push_str("another number");
     }
-    push_quoted(into, &word)
+    push_quoted(into, word)
+}
+
+fn tell_number<R: Abort>(into: &mut Report, rt: &R, alloc: Global, text: &str) {
+    let value = text.parse::<i64>().expect(rt, "a number");
+    tell_written(into, value, &written(alloc, value).expect(rt, "memory"))
 }
 
 /// Tells what a case comes to: the answer to a function and its words, with a stroke before each, or behind `name` or `number` to what is

@@ -3,8 +3,9 @@ ghost use Rattle.std.specs.Prelude.{◌≤◌, length};
 ghost use Rattle.cms_fields.specs.Limits.{most_bytes};
 ghost use Rattle.cms_model.specs.Records.{IsValid};
 
-use crate::exec2::shared::{STAMP, coded, procedure_of, push_quoted, word};
-use cms_cases::{Ascii, Report};
+use crate::exec2::shared::{STAMP, procedure_of, push_quoted};
+use crate::texts::{letters, short};
+use cms_cases::Report;
 use cms_model::{FileData, Stored};
 use cms_names::Format;
 use cms_text::{first_word, is_keyword, without_trailing_blanks};
@@ -33,13 +34,20 @@ fn varying<R: Abort>(rt: &R, alloc: Global) -> FileData
     }
 }
 
+fn set<R: Abort>(vars: &mut Vars, rt: &R, alloc: Global, name: &str, value: &str) {
+    let name = short(rt, alloc, name);
+    vars.set(name, short(rt, alloc, value)).expect(rt, "memory");
+}
+
+fn unset<R: Abort>(vars: &mut Vars, rt: &R, alloc: Global, name: &str) {
+    vars.unset(&letters(rt, alloc, name))
+}
+
 // Variables that are set one after another, `name=value`, or forgotten, `-name`.
 fn change<R: Abort>(vars: &mut Vars, rt: &R, alloc: Global, step: &str) {
-    if let Some((name, value)) = step.split_once('=') {
-        let (name, value) = (word(rt, alloc, name), word(rt, alloc, value));
-        vars.set(name, value).expect(rt, "memory");
-    } else if let Some(name) = step.strip_prefix('-') {
-        vars.unset(word(rt, alloc, name).bytes());
+    match step.split_once('=') {
+        Some((name, value)) => set(vars, rt, alloc, name, value),
+        None => unset(vars, rt, alloc, step.strip_prefix('-').unwrap_or(step)),
     }
 }
 
@@ -48,7 +56,8 @@ fn push_state(into: &mut Report, vars: &Vars) {
     if vars.is_empty() {
         return into.push_str("empty");
     }
-    write!(into, "{} ", vars.len());
+    into.value(&vars.len());
+    into.push(' ');
     match vars.get(&[0xC2]) {
         Some(value) => push_quoted(into, value),
         None => into.push_str("none"),
@@ -76,7 +85,7 @@ fn known<R: Abort>(rt: &R, alloc: Global) -> Vars {
 }
 
 fn tell_expanded<R: Abort>(into: &mut Report, rt: &R, alloc: Global, text: &str) {
-    let word = word(rt, alloc, text);
+    let word = short(rt, alloc, text);
     match expand(alloc, word.bytes(), &known(rt, alloc)) {
         Ok(word) => push_quoted(into, &word),
         Err(fault) => into.value(&fault),
@@ -85,14 +94,19 @@ fn tell_expanded<R: Abort>(into: &mut Report, rt: &R, alloc: Global, text: &str)
 
 // The first word of a line, and the line without the blanks at its end.
 fn tell_parts(into: &mut Report, line: &[u8]) {
-    let first = Ascii(first_word(line));
-    let kept = Ascii(without_trailing_blanks(line));
-    write!(into, "[{first}][{kept}]")
+    into.push('[');
+    into.ascii(first_word(line));
+    into.push_str("][");
+    into.ascii(without_trailing_blanks(line));
+    into.push(']')
 }
 
 // How many lines a procedure has, or why there is none.
 fn tell_count(into: &mut Report, read: Result<Procedure, ProcFault>) {
-    into.value(&read.map(|procedure| procedure.len()))
+    match read {
+        Ok(procedure) => write!(into, "Ok({})", procedure.len()),
+        Err(fault) => write!(into, "Err({fault:?})"),
+    }
 }
 
 // Adds the lines of a procedure up to the first place at which there is none.
@@ -173,18 +187,25 @@ long @4095 &TRACE; => Ok(4096)
 long @4096 &TRACE; => Err(TooManyLines)
 long @4096 &TRACE;%256 => Err(LineTooLong(4097))";
 
+// Tells what is read of a file.
+fn tell_read<R: Abort>(into: &mut Report, rt: &R, alloc: Global, kind: &str, text: &str) {
+    match kind {
+        "short" => tell_count(into, procedure_of(rt, alloc, 80, text)),
+        "long" => tell_count(into, procedure_of(rt, alloc, 300, text)),
+        "lines" => tell_lines(into, procedure_of(rt, alloc, 80, text)),
+        "varying" => tell_lines(into, read_procedure(alloc, &varying(rt, alloc))),
+        _ => into.push_str("another word"),
+    }
+}
+
 /// Tells what a case comes to.
 pub fn tell<R: Abort>(into: &mut Report, rt: &R, alloc: Global, case: &str) {
     let (kind, text) = case.split_once(' ').unwrap_or((case, ""));
     match kind {
         "expand" => tell_expanded(into, rt, alloc, text),
         "vars" => tell_states(into, rt, alloc, text),
-        "parts" => tell_parts(into, coded(rt, alloc, text).as_slice()),
-        "trace" => into.value(&is_keyword(coded(rt, alloc, text).as_slice(), "&TRACE")),
-        "short" => tell_count(into, procedure_of(rt, alloc, 80, text)),
-        "long" => tell_count(into, procedure_of(rt, alloc, 300, text)),
-        "lines" => tell_lines(into, procedure_of(rt, alloc, 80, text)),
-        "varying" => tell_lines(into, read_procedure(alloc, &varying(rt, alloc))),
-        _ => into.push_str("another word"),
+        "parts" => tell_parts(into, &letters(rt, alloc, text)),
+        "trace" => into.value(&is_keyword(&letters(rt, alloc, text), "&TRACE")),
+        _ => tell_read(into, rt, alloc, kind, text),
     }
 }

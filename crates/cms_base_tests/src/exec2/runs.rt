@@ -1,12 +1,12 @@
 // Procedures and what they want, by the rules of VM/SP EXEC 2.
-use crate::exec2::shared::{procedure_of, word};
-use cms_cases::{Ascii, Report, number};
+use crate::exec2::shared::procedure_of;
+use crate::texts::{file_name, short};
+use cms_cases::{Report, number};
 use cms_fields::Moment;
-use cms_names::{Name, Part};
 use cms_text::Lines;
 use exec2_parse::Procedure;
 use exec2_run::{Exec, FileName, Side, Want};
-use std::alloc::{AllocError, Global};
+use std::alloc::Global;
 use std::process::Abort;
 
 // A procedure and what it wants, `CALLED # LINES # ANSWERS => WANTED`, or with `# turns` before the arrow how many turns it takes too, of
@@ -329,17 +329,10 @@ fn field(case: &str, place: usize) -> &str {
     text.strip_suffix(' ').unwrap_or(text)
 }
 
-// A name or a type.
-fn part<R: Abort>(rt: &R, text: &[u8]) -> Part {
-    Part::read(text).expect(rt, "a part")
-}
-
 // The file of the procedures, T EXEC A1.
 fn found<R: Abort>(rt: &R) -> FileName {
-    let file = part(rt, &[0xE3]);
-    let kind = part(rt, &[0xC5, 0xE7, 0xC5, 0xC3]);
     FileName {
-        name: Name { file, kind },
+        name: file_name(rt, &[0xE3], &[0xC5, 0xE7, 0xC5, 0xC3]),
         letter: 0,
         number: 1,
     }
@@ -353,7 +346,7 @@ fn procedure<R: Abort>(rt: &R, alloc: Global, lines: &str) -> Procedure {
 
 // A procedure that is called, by its name alone where no line is given.
 fn started<R: Abort>(rt: &R, alloc: Global, called: &str, lines: &str) -> Exec {
-    let called = word(rt, alloc, if called.is_empty() { "T" } else { called });
+    let called = short(rt, alloc, if called.is_empty() { "T" } else { called });
     let procedure = procedure(rt, alloc, lines);
     Exec::start(alloc, procedure, &called, &found(rt)).expect(rt, "memory")
 }
@@ -363,30 +356,57 @@ fn moment(turn: u32) -> Moment {
     Moment::of_epoch(946_684_800 + i64::from(turn), 0)
 }
 
-// What the procedure wants now, which may take a turn.
-fn next_want(exec: &mut Exec, turn: &mut u32) -> Result<Want, AllocError> {
-    let want = exec.settle(&moment(turn.saturating_sub(1)))?;
-    if !matches!(&want, Want::Next) {
-        return Ok(want);
-    }
-    drop(want);
+// What the procedure wants in a turn.
+fn turned<R: Abort>(rt: &R, exec: &mut Exec, turn: &mut u32) -> Want {
     let now = moment(*turn);
     *turn = turn.saturating_add(1);
-    exec.turn(&now)
+    exec.turn(&now).expect(rt, "memory")
+}
+
+// What the procedure wants now, which may take a turn.
+fn next_want<R: Abort>(rt: &R, exec: &mut Exec, turn: &mut u32) -> Want {
+    let now = moment(turn.saturating_sub(1));
+    let want = exec.settle(&now).expect(rt, "memory");
+    match want {
+        Want::Next => turned(rt, exec, turn),
+        other => other,
+    }
+}
+
+// Adds a text between brackets.
+fn push_text(into: &mut Report, text: &[u8]) {
+    into.push_str(" [");
+    into.ascii(text);
+    into.push(']')
 }
 
 // Adds a word and the lines behind it, each between brackets and with a blank before it.
 fn push_lines(into: &mut Report, first: &str, lines: &Lines) {
     into.push_str(first);
     for line in lines.as_slice() {
-        write!(into, " [{}]", Ascii(line.bytes()));
+        push_text(into, line.bytes());
     }
+    into.push(';')
+}
+
+// Adds a command.
+fn push_command(into: &mut Report, command: &[u8]) {
+    into.push_str("cmd");
+    push_text(into, command);
     into.push(';')
 }
 
 // Adds a word and texts between brackets.
 fn push_sub(into: &mut Report, word: &[u8], text: &[u8]) {
-    write!(into, "sub [{}] [{}];", Ascii(word), Ascii(text))
+    into.push_str("sub");
+    push_text(into, word);
+    push_text(into, text);
+    into.push(';')
+}
+
+fn push_ended(into: &mut Report, code: i32) {
+    into.push_str("end ");
+    into.value(&code)
 }
 
 // Adds what is wanted.
@@ -397,9 +417,9 @@ fn push_want(into: &mut Report, want: &Want) {
         Want::Stack(lines, Side::Front) => push_lines(into, "stack front", lines),
         Want::Stack(lines, Side::Back) => push_lines(into, "stack back", lines),
         Want::Read => into.push_str("read;"),
-        Want::Command(command) => write!(into, "cmd [{}];", Ascii(command.bytes())),
+        Want::Command(command) => push_command(into, command.bytes()),
         Want::Sub(word, text) => push_sub(into, word.bytes(), text.bytes()),
-        Want::Ended(code) => write!(into, "end {code}"),
+        Want::Ended(code) => push_ended(into, *code),
         Want::Failed { number, line } => write!(into, "fail {number} {line}"),
     }
 }
@@ -420,7 +440,7 @@ fn stacked(exec: &mut Exec, answers: &mut &str) -> Want {
 }
 
 fn lined<R: Abort>(rt: &R, alloc: Global, exec: &mut Exec, answers: &mut &str) -> Want {
-    let line = word(rt, alloc, answer_in(answers, "r ").unwrap_or(""));
+    let line = short(rt, alloc, answer_in(answers, "r ").unwrap_or(""));
     exec.take_line(&line).expect(rt, "memory")
 }
 
@@ -458,7 +478,7 @@ fn step<R: Abort>(
     answers: &mut &str,
 ) -> Option<Want> {
     let want = match last {
-        Want::Next => next_want(exec, turn).expect(rt, "memory"),
+        Want::Next => next_want(rt, exec, turn),
         other => other,
     };
     push_want(into, &want);
@@ -491,17 +511,25 @@ fn push_wants<R: Abort>(
 
 // The most turns that a row's last field allows.
 fn most_turns(last: &str) -> u32 {
-    last.strip_prefix("turns ").map_or(TURNS, number)
+    match last.strip_prefix("turns ") {
+        Some(count) => number(count),
+        None => TURNS,
+    }
 }
 
 /// Tells what a row's procedure wants, with the turns that it takes where the row asks for these.
 pub fn tell<R: Abort>(into: &mut Report, rt: &R, alloc: Global, case: &str) {
     let last = field(case, 3);
-    let mut exec = started(rt, alloc, field(case, 0), field(case, 1));
-    let (answers, most) = (field(case, 2), most_turns(last));
-    let turns = push_wants(into, rt, alloc, &mut exec, answers, most);
-    drop(exec);
+    let turns = push_wants(
+        into,
+        rt,
+        alloc,
+        &mut started(rt, alloc, field(case, 0), field(case, 1)),
+        field(case, 2),
+        most_turns(last),
+    );
     if !last.is_empty() {
-        write!(into, ";turns {turns}");
+        into.push_str(";turns ");
+        into.value(&turns);
     }
 }

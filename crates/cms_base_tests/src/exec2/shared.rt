@@ -3,38 +3,26 @@ ghost use Rattle.std.specs.Prelude.{◌≤◌, length};
 ghost use Rattle.cms_fields.specs.Limits.{most_bytes};
 ghost use Rattle.cms_model.specs.Records.{IsValid};
 
-use cms_cases::{Ascii, Report};
+use crate::texts::letters;
+use cms_cases::Report;
 use cms_fields::Stamp;
 use cms_model::{FileData, Stored};
 use cms_names::Format;
-use cms_text::{LONGEST_TEXT, Word, ebcdic};
+use cms_text::Word;
 use exec2_parse::{ProcFault, Procedure, read_procedure};
 use std::alloc::Global;
 use std::process::Abort;
-
-/// A text in EBCDIC; behind a percent sign stands how many letters X it is.
-pub fn coded<R: Abort>(rt: &R, alloc: Global, text: &str) -> Vec<u8> {
-    let bytes = match text.strip_prefix('%') {
-        Some(count) => vec![in alloc; 0xE7; count.parse().unwrap_or(0)],
-        None => ebcdic(alloc, text),
-    };
-    bytes.expect(rt, "memory")
-}
-
-/// A word or a line of such a text, which may not be too long.
-pub fn word<R: Abort>(rt: &R, alloc: Global, text: &str) -> Word {
-    let bytes = coded(rt, alloc, text);
-    assert!(rt; bytes.len() <= LONGEST_TEXT, "a word is too long");
-    Word::take(bytes)
-}
 
 /// Adds a word between apostrophes, or how many bytes it has, if these are many.
 pub fn push_quoted(into: &mut Report, word: &Word) {
     let bytes = word.bytes();
     if bytes.len() > 99 {
-        return write!(into, "{} bytes", bytes.len());
+        into.value(&bytes.len());
+        return into.push_str(" bytes");
     }
-    write!(into, "'{}'", Ascii(bytes))
+    into.push('\'');
+    into.ascii(bytes);
+    into.push('\'')
 }
 
 /// The first of January 1900.
@@ -49,22 +37,26 @@ pub const STAMP: Stamp = Stamp {
 
 // How often a line stands there, and the line.
 fn copies(line: &str) -> (u32, &str) {
-    if let Some(rest) = line.strip_prefix('@') {
-        if let Some((count, text)) = rest.split_once(' ') {
-            return (count.parse().unwrap_or(0), text);
-        }
+    let behind = line.strip_prefix('@').unwrap_or("");
+    match behind.split_once(' ') {
+        Some((count, text)) => (count.parse().unwrap_or(0), text),
+        None => (1, line),
     }
-    (1, line)
+}
+
+// Adds a card so often.
+fn push_copies<R: Abort>(bytes: &mut Vec<u8>, rt: &R, card: &[u8], count: u32) {
+    for _ in 0..count {
+        bytes.extend_from_slice(card).expect(rt, "memory");
+    }
 }
 
 // Adds a line, as often as it stands there, with blanks behind it up to a size.
 fn push_cards<R: Abort>(bytes: &mut Vec<u8>, rt: &R, alloc: Global, size: u16, line: &str) {
     let (count, text) = copies(line);
-    let mut card = coded(rt, alloc, text);
+    let mut card = letters(rt, alloc, text);
     card.resize(usize::from(size), 0x40).expect(rt, "memory");
-    for _ in 0..count {
-        bytes.extend_from_slice(&card).expect(rt, "memory");
-    }
+    push_copies(bytes, rt, &card, count)
 }
 
 // The lines between semicolons, each with blanks behind it up to a size.

@@ -1,7 +1,8 @@
 // Units that are real files.
+use crate::world::steps::filling;
 use cms_cases::Report;
 use cms_host::{FileWorld, Host, System};
-use cms_world::{Access, World};
+use cms_world::{Access, Unit, World};
 use std::alloc::{AllocError, Global};
 use std::fs::{File, Files, OpenFile, OpenOptions};
 use std::time::Clock;
@@ -19,16 +20,20 @@ fn host(rt: &HostRuntime) -> Host<&HostRuntime> {
     Host::new(rt.alloc(), rt)
 }
 
-// Has a host keep a file that is open to be read, and perhaps written.
+// Opens a file to be read, and perhaps written.
+fn opened(rt: &HostRuntime, name: &str, writes: bool) -> io::Result<File> {
+    OpenOptions::new().read(true).write(writes).open(rt, name)
+}
+
+// Has a host keep a file that is open, and says its number.
 fn keep_file<R: Files<File = File> + io::Input + Print + Eprint + Clock + Drop>(
     rt: &HostRuntime,
     host: &mut Host<R>,
     name: &str,
     writes: bool,
-) -> io::Result<()> {
-    let file = OpenOptions::new().read(true).write(writes).open(rt, name)?;
-    host.keep(file, name)?;
-    Ok(())
+) -> io::Result<usize> {
+    let file = opened(rt, name, writes)?;
+    Ok(host.keep(file, name)?)
 }
 
 // Has a host keep three files: one that is open to be read alone, a device that can't be synced, and the first again to be written.
@@ -36,7 +41,7 @@ fn keep_files<R: Files<File = File> + io::Input + Print + Eprint + Clock + Drop>
     rt: &HostRuntime,
     host: &mut Host<R>,
     name: &str,
-) -> io::Result<()> {
+) -> io::Result<usize> {
     fs::write(rt, name, &[7; 1024])?;
     keep_file(rt, host, name, false)?;
     keep_file(rt, host, "/dev/null", true)?;
@@ -65,7 +70,8 @@ fn push_failures<S: System>(into: &mut Report, host: &mut S, name: &str) {
         went(host.sync_folder(name)),
         went(host.sync_folder("/dev/null/x")),
     ];
-    writeln!(into, "{said:?}")
+    into.value(&said);
+    into.push('\n')
 }
 
 // Adds whether a name that isn't there, a device and a folder are opened.
@@ -76,7 +82,8 @@ fn push_opened<S: System>(into: &mut Report, host: &mut S, missing: &str) {
         went(host.open("/dev/null", Access::ReadOnly)),
         went(host.open("/", Access::ReadOnly)),
     ];
-    writeln!(into, "{said:?}")
+    into.value(&said);
+    into.push('\n')
 }
 
 // Adds what comes of files that are kept, and of names that aren't opened, of which the new one isn't there then. The old file is removed.
@@ -91,7 +98,8 @@ fn push_kept<'a, R: Files<File = File> + io::Input + Print + Eprint + Clock + Dr
     push_failures(into, &mut host, old);
     fs::remove_file(rt, old)?;
     push_opened(into, &mut host, new);
-    writeln!(into, "{}", went(fs::metadata(rt, new)));
+    into.value(&went(fs::metadata(rt, new)));
+    into.push('\n');
     Ok(())
 }
 
@@ -104,6 +112,14 @@ fn name_of<'a>(letter: char, names: (&'a str, &'a str)) -> &'a str {
     }
 }
 
+// Adds the number of a unit and its blocks.
+fn push_unit(into: &mut Report, unit: Unit) {
+    into.value(&unit.number);
+    into.push(' ');
+    into.value(&unit.blocks);
+    into.push(';')
+}
+
 // Adds what comes of attaching an image: the unit's number and its blocks, or a hyphen.
 fn push_attaching<S: System + Drop>(
     into: &mut Report,
@@ -112,7 +128,7 @@ fn push_attaching<S: System + Drop>(
     access: Access,
 ) {
     match world.attach(name, 512, access) {
-        Ok(unit) => write!(into, "{} {};", unit.number, unit.blocks),
+        Ok(unit) => push_unit(into, unit),
         Err(_) => into.push_str("-;"),
     }
 }
@@ -191,11 +207,9 @@ enum Call {
 fn letter_in<S: System + Drop>(world: &mut FileWorld<S>, unit: u8, block: u32) -> char {
     let mut bytes = [0; 512];
     let is_read = world.read_block(unit, block, &mut bytes).is_ok();
-    let first = bytes[0];
-    if is_read && bytes.as_slice() == [first; 512].as_slice() {
-        char::from(b'0'.saturating_add(first))
-    } else {
-        '-'
+    match filling(&bytes) {
+        Some(letter) if is_read => char::from(b'0'.saturating_add(letter)),
+        _ => '-',
     }
 }
 
@@ -236,7 +250,11 @@ fn push_calls<S: System + Drop>(into: &mut Report, world: &mut FileWorld<S>) {
         into.push(came(world, *call));
     }
     let (faults, edges) = world.failures();
-    writeln!(into, ";{faults},{edges}")
+    into.push(';');
+    into.value(&faults);
+    into.push(',');
+    into.value(&edges);
+    into.push('\n')
 }
 
 // A new image, and one that is read alone.
@@ -260,7 +278,8 @@ fn push_units<'a, S: System + Drop>(
     let mut world = FileWorld::new(alloc, system, false)?;
     push_attached(into, &mut world, names, UNITS);
     push_calls(into, &mut world);
-    writeln!(into, "{}", is_late(&mut world));
+    into.value(&is_late(&mut world));
+    into.push('\n');
     Ok(())
 }
 

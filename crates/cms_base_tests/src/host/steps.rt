@@ -122,7 +122,11 @@ fn tell_asked(into: &mut Report, world: &mut FileWorld<Logged>, steps: &str) {
         }
     }
     let (faults, edges) = world.failures();
-    write!(into, " {faults},{edges} ");
+    into.push(' ');
+    into.value(&faults);
+    into.push(',');
+    into.value(&edges);
+    into.push(' ');
     push_deeds(into, &world.system().deeds)
 }
 
@@ -178,21 +182,8 @@ fn tell_read(into: &mut Report, world: &mut FileWorld<Logged>, lock: &str, steps
             into.push(letter);
         }
     }
-    write!(into, " {}", world.failures().0)
-}
-
-// Types a text, or flushes: how many bytes are taken, or a dot; a hyphen where it doesn't go.
-fn push_typing(into: &mut Report, world: &mut FileWorld<Logged>, step: &str, text: &[u8]) {
-    if step == "flush" {
-        return into.push(if world.finish() { '.' } else { '-' });
-    }
-    if text.is_empty() {
-        return into.push('?');
-    }
-    match world.type_out(text) {
-        Ok(count) => into.value(&count),
-        Err(_) => into.push('-'),
-    }
+    into.push(' ');
+    into.value(&world.failures().0)
 }
 
 // Gives the printer so much room.
@@ -215,6 +206,50 @@ fn with_line_feeds<R: Abort>(rt: &R, alloc: Global, text: &[u8], old: u8, new: u
     bytes
 }
 
+// Types a text: how many bytes are taken; a hyphen where it doesn't go.
+fn push_typed(into: &mut Report, world: &mut FileWorld<Logged>, text: &[u8]) {
+    if text.is_empty() {
+        return into.push('?');
+    }
+    match world.type_out(text) {
+        Ok(count) => into.value(&count),
+        Err(_) => into.push('-'),
+    }
+}
+
+// Types a text, or flushes: a dot, or a hyphen where it doesn't go.
+fn push_typing<R: Abort>(
+    into: &mut Report,
+    rt: &R,
+    alloc: Global,
+    world: &mut FileWorld<Logged>,
+    step: &str,
+) {
+    if step == "flush" {
+        return into.push(if world.finish() { '.' } else { '-' });
+    }
+    push_typed(
+        into,
+        world,
+        &with_line_feeds(rt, alloc, step.as_bytes(), b'~', b'\n'),
+    )
+}
+
+// Adds what was printed behind so many bytes, and says how many there were.
+fn push_printed<R: Abort>(
+    into: &mut Report,
+    rt: &R,
+    alloc: Global,
+    system: &Logged,
+    seen: usize,
+) -> usize {
+    let log = system.log.get(seen..).unwrap_or(b"?");
+    into.push('[');
+    push_bytes(into, &with_line_feeds(rt, alloc, log, b'\n', b'~'));
+    into.push(']');
+    system.log.len()
+}
+
 fn tell_typed<R: Abort>(
     into: &mut Report,
     rt: &R,
@@ -227,12 +262,8 @@ fn tell_typed<R: Abort>(
         if let Ok(room) = step.parse() {
             give_room(world.system(), room);
         } else {
-            let text = with_line_feeds(rt, alloc, step.as_bytes(), b'~', b'\n');
-            push_typing(into, world, step, &text);
-            let log = world.system().log.get(seen..).unwrap_or(b"?");
-            let printed = with_line_feeds(rt, alloc, log, b'\n', b'~');
-            write!(into, "[{}]", str::from_utf8(&printed).unwrap_or("?"));
-            seen = world.system().log.len();
+            push_typing(into, rt, alloc, world, step);
+            seen = push_printed(into, rt, alloc, world.system(), seen);
         }
     }
 }

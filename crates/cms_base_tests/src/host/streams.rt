@@ -1,4 +1,5 @@
 // Printers, readers and clocks that fail.
+use crate::world::steps::push_bytes;
 use cms_cases::{Report, word};
 use cms_host::{folder_of, read_some, seconds, write_some};
 use std::cell::Cell;
@@ -101,7 +102,8 @@ fn tell_reads(into: &mut Report) {
         read_some(&mut reader, &mut bytes),
         read_some(&mut reader, &mut bytes),
     ]);
-    write!(into, " {}", str::from_utf8(&bytes).unwrap_or("?"))
+    into.push(' ');
+    push_bytes(into, &bytes)
 }
 
 fn tell_writes(into: &mut Report) {
@@ -116,12 +118,16 @@ fn tell_writes(into: &mut Report) {
     ])
 }
 
+fn tell_folder(into: &mut Report, case: &str) {
+    into.push_str(folder_of(case.strip_prefix("folder ").unwrap_or("")))
+}
+
 /// Tells what a case comes to.
 pub fn tell(into: &mut Report, case: &str) {
     match word(case, 0) {
         "clock" => tell_clocks(into),
         "reads" => tell_reads(into),
         "writes" => tell_writes(into),
-        _ => into.push_str(folder_of(case.strip_prefix("folder ").unwrap_or(""))),
+        _ => tell_folder(into, case),
     }
 }

@@ -1,6 +1,6 @@
 // Scripts and their lines.
-use crate::line::words::blank_word;
 use crate::plain_world::{PlainWorld, in_pieces};
+use crate::texts::{are_all, blank_number, blank_word};
 use cms_cases::{Report, number};
 use cms_line::{Console, ConsoleLine, LineFault};
 use std::alloc::Global;
@@ -42,20 +42,11 @@ world 1 => !;A;B;,,,3,1
 world 2 => A;!;B;,,,3,1
 world 3 => A;B;,,,2,1";
 
-// Whether a line is of `A` alone.
-fn is_letters(line: &[u8]) -> bool {
-    for byte in line {
-        if *byte != 0xC1 {
-            return false;
-        }
-    }
-    true
-}
-
 // Adds a line's text.
 fn push_text(into: &mut Report, line: &[u8]) {
-    if line.len() > 99 && is_letters(line) {
-        return write!(into, "{}*", line.len());
+    if line.len() > 99 && are_all(line, 0xC1) {
+        into.value(&line.len());
+        return into.push('*');
     }
     into.ascii(line)
 }
@@ -74,7 +65,25 @@ fn sign(line: &Result<ConsoleLine, LineFault>) -> &'static str {
     }
 }
 
-// Adds the lines of a script that is given, or else of the world's. The end is asked for thrice.
+// Adds a line and what stands behind it, or in its place.
+fn push_line(into: &mut Report, line: &Result<ConsoleLine, LineFault>) {
+    if let Ok(ConsoleLine::Text(text)) = line {
+        push_text(into, text.bytes());
+    }
+    into.push_str(sign(line))
+}
+
+// Adds the lines of a console. The end is asked for thrice.
+fn push_all(into: &mut Report, console: &mut Console, world: &mut PlainWorld<'_>) {
+    for _ in 0..1000 {
+        push_line(into, &console.next(world));
+        if into.text().ends_with(",,,") {
+            break;
+        }
+    }
+}
+
+// Adds the lines of a script that is given, or else of the world's.
 fn push_script<R: Abort>(
     into: &mut Report,
     rt: &R,
@@ -83,16 +92,7 @@ fn push_script<R: Abort>(
     world: &mut PlainWorld<'_>,
 ) {
     let mut console = Console::new(alloc, given).expect(rt, "memory");
-    for _ in 0..1000 {
-        let line = console.next(world);
-        if let Ok(ConsoleLine::Text(text)) = &line {
-            push_text(into, text.bytes());
-        }
-        into.push_str(sign(&line));
-        if into.text().ends_with(",,,") {
-            break;
-        }
-    }
+    push_all(into, &mut console, world)
 }
 
 // What a character of a case stands for.
@@ -141,8 +141,10 @@ fn given<R: Abort>(rt: &R, alloc: Global, is_given: bool) -> Option<Vec<u8>> {
 pub fn push_reads<R: Abort>(into: &mut Report, rt: &R, alloc: Global, case: &str) {
     let is_given = blank_word(case, 0) == "given";
     let script = if is_given { "C\n" } else { "A\nB" };
-    let failing = number(blank_word(case, 1)) as usize;
+    let failing = blank_number(case, 1) as usize;
     let mut world = in_pieces(alloc, script.as_bytes(), 7, failing);
     push_script(into, rt, alloc, given(rt, alloc, is_given), &mut world);
-    write!(into, "{},{}", world.calls, world.reads_past_end)
+    into.value(&world.calls);
+    into.push(',');
+    into.value(&world.reads_past_end)
 }

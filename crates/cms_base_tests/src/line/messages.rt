@@ -1,7 +1,7 @@
 // Messages.
-use crate::line::words::{blank_word, short};
 use crate::operands::push_message;
-use cms_cases::{Report, number};
+use crate::texts::{blank_number, blank_word, short};
+use cms_cases::Report;
 use cms_line::{Message, Word};
 use std::alloc::Global;
 use std::process::Abort;
@@ -99,24 +99,35 @@ fn of_three(number: u32, first: Word, second: Word, third: Word) -> Message {
     }
 }
 
-// The message that is given by its number and its words.
-fn message<R: Abort>(rt: &R, alloc: Global, case: &str) -> Message {
-    let number = number(blank_word(case, 0));
-    let first = blank_word(case, 1);
-    let second = blank_word(case, 2);
-    let third = blank_word(case, 3);
-    if first.is_empty() {
-        return wordless(number);
-    }
-    let first = short(rt, alloc, first);
-    if second.is_empty() {
+// The word of a case at a place.
+fn word_at<R: Abort>(rt: &R, alloc: Global, case: &str, place: usize) -> Word {
+    short(rt, alloc, blank_word(case, place))
+}
+
+// The message that is given by its number and its first two words.
+fn of_few<R: Abort>(rt: &R, alloc: Global, number: u32, case: &str) -> Message {
+    let first = word_at(rt, alloc, case, 1);
+    if blank_word(case, 2).is_empty() {
         return of_one(number, first);
     }
-    let second = short(rt, alloc, second);
-    if third.is_empty() {
-        return of_two(number, first, second);
+    of_two(number, first, word_at(rt, alloc, case, 2))
+}
+
+// And by all its words.
+fn message<R: Abort>(rt: &R, alloc: Global, case: &str) -> Message {
+    let number = blank_number(case, 0);
+    if blank_word(case, 1).is_empty() {
+        return wordless(number);
     }
-    of_three(number, first, second, short(rt, alloc, third))
+    if blank_word(case, 3).is_empty() {
+        return of_few(rt, alloc, number, case);
+    }
+    of_three(
+        number,
+        word_at(rt, alloc, case, 1),
+        word_at(rt, alloc, case, 2),
+        word_at(rt, alloc, case, 3),
+    )
 }
 
 /// Adds the text of the message of a case.

@@ -1,5 +1,5 @@
 // Lines, their words and the options among them, written by hand.
-use crate::line::words::short;
+use crate::texts::short;
 use cms_cases::Report;
 use cms_line::{OptionRule, Tokens, accepted_options, options, tokens};
 use cms_text::coded;
@@ -49,7 +49,8 @@ L (DATE FROM 1) => Err(Missing(5))
 L (DISK BLUE LABEL => Err(Unknown(3))
 L ({DATE *25}BLUE => Err(Unknown(27))";
 
-fn words_of<R: Abort>(rt: &R, alloc: Global, line: &str) -> Tokens {
+/// The words of a line.
+pub fn words_of<R: Abort>(rt: &R, alloc: Global, line: &str) -> Tokens {
     tokens(alloc, &short(rt, alloc, line)).expect(rt, "memory")
 }
 
@@ -57,7 +58,11 @@ fn words_of<R: Abort>(rt: &R, alloc: Global, line: &str) -> Tokens {
 pub fn push_words<R: Abort>(into: &mut Report, rt: &R, alloc: Global, line: &str) {
     for word in words_of(rt, alloc, line).as_slice() {
         into.ascii(word.text.bytes());
-        write!(into, " {}-{};", word.start, word.end);
+        into.push(' ');
+        into.value(&word.start);
+        into.push('-');
+        into.value(&word.end);
+        into.push(';');
     }
     into.push('.')
 }

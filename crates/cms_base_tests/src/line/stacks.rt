@@ -1,6 +1,6 @@
 // The program stack.
-use crate::line::words::blank_word;
-use cms_cases::{Report, number};
+use crate::texts::{blank_number, blank_word};
+use cms_cases::Report;
 use cms_line::{Line, ProgStack, PushFault};
 use std::alloc::Global;
 
@@ -49,11 +49,12 @@ fn step(alloc: Global, stack: &mut ProgStack, step: u8) -> char {
 /// Adds what comes of steps behind lines, and how many lines are left.
 pub fn push_steps(into: &mut Report, alloc: Global, case: &str) {
     let mut stack = ProgStack::new(alloc);
-    for _ in 0..number(blank_word(case, 0)) {
+    for _ in 0..blank_number(case, 0) {
         push(alloc, &mut stack, b'a', false);
     }
     for byte in blank_word(case, 1).as_bytes() {
         into.push(step(alloc, &mut stack, *byte));
     }
-    write!(into, " {}", stack.len())
+    into.push(' ');
+    into.value(&stack.len())
 }

@@ -1,6 +1,6 @@
 // Lines that are typed.
-use crate::line::words::blank_word;
 use crate::plain_world::{PlainWorld, in_pieces};
+use crate::texts::blank_number;
 use cms_cases::{Report, number};
 use cms_line::type_line;
 use std::alloc::Global;
@@ -60,18 +60,27 @@ fn type_lines<R: Abort>(
     whole
 }
 
-/// Adds what comes of typing lines of `A`.
-pub fn push_typed<R: Abort>(into: &mut Report, rt: &R, alloc: Global, case: &str) {
-    let (how, lengths) = case.split_once(" of ").unwrap_or((case, ""));
-    let size = number(blank_word(how, 0)) as usize;
-    let failing = number(blank_word(how, 1)) as usize;
-    let mut world = in_pieces(alloc, b"", size, failing);
-    let mut wanted = Vec::new(alloc);
-    let whole = type_lines(rt, alloc, &mut world, &mut wanted, lengths);
+// Adds how many lines are typed whole, the calls, and how many bytes are typed, of those that should be.
+fn push_counts(into: &mut Report, whole: u32, world: &PlainWorld<'_>, wanted: &[u8]) {
     if !wanted.starts_with(&world.typed) {
         return into.push_str("other bytes");
     }
-    write!(into, "{whole},{},{}", world.calls, world.typed.len())
+    into.value(&whole);
+    into.push(',');
+    into.value(&world.calls);
+    into.push(',');
+    into.value(&world.typed.len())
+}
+
+/// Adds what comes of typing lines of `A`.
+pub fn push_typed<R: Abort>(into: &mut Report, rt: &R, alloc: Global, case: &str) {
+    let (how, lengths) = case.split_once(" of ").unwrap_or((case, ""));
+    let size = blank_number(how, 0) as usize;
+    let failing = blank_number(how, 1) as usize;
+    let mut world = in_pieces(alloc, b"", size, failing);
+    let mut wanted = Vec::new(alloc);
+    let whole = type_lines(rt, alloc, &mut world, &mut wanted, lengths);
+    push_counts(into, whole, &world, &wanted)
 }
 
 /// Adds what is typed of the line of codes.

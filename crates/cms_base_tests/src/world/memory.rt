@@ -1,8 +1,7 @@
 // Sessions with a world in memory. A block is named by the letter that fills it, or by 0.
-use crate::world::steps::{
-    access, filling, push_bytes, push_done, step_number, step_word, unit_of,
-};
-use cms_cases::{Report, number, word};
+use crate::texts::{blank_number, blank_word};
+use crate::world::steps::{access, filling, push_bytes, push_done, push_other, unit_of};
+use cms_cases::{Report, word};
 use cms_world::{Access, MemWorld, World};
 use std::alloc::Global;
 use std::process::Abort;
@@ -54,7 +53,7 @@ fn attach(world: &mut MemWorld, name: &str, size: u32, access: Access) -> Option
 
 fn push_attached(into: &mut Report, world: &mut MemWorld, name: &str, size: u32, access: Access) {
     match attach(world, name, size, access) {
-        Some(blocks) => write!(into, "{blocks}"),
+        Some(blocks) => into.value(&blocks),
         None => into.push('-'),
     }
 }
@@ -97,9 +96,10 @@ fn push_block(into: &mut Report, world: &mut MemWorld, unit: u8, block: u32) {
 
 fn push_read(into: &mut Report, world: &mut MemWorld, bytes: &mut [u8; 3]) {
     match world.read(bytes) {
-        Ok(count) => write!(into, "{count} "),
-        Err(_) => into.push_str("- "),
+        Ok(count) => into.value(&count),
+        Err(_) => into.push('-'),
     }
+    into.push(' ');
     push_bytes(into, bytes)
 }
 
@@ -109,20 +109,26 @@ fn type_out(world: &mut MemWorld, bytes: &[u8]) -> bool {
 
 fn push_time(into: &mut Report, world: &mut MemWorld) {
     match world.now() {
-        Ok(seconds) => write!(into, "{seconds}"),
+        Ok(seconds) => into.value(&seconds),
         Err(_) => into.push('-'),
     }
 }
 
-// Blocks of the letters before a plus sign, and what stands behind it.
-fn image<R: Abort>(rt: &R, alloc: Global, letters: &str) -> Vec<u8> {
-    let (letters, rest) = letters.split_once('+').unwrap_or((letters, ""));
+// Blocks of these letters.
+fn blocks<R: Abort>(rt: &R, alloc: Global, letters: &str) -> Vec<u8> {
     let mut bytes = Vec::new(alloc);
     for letter in letters.as_bytes() {
         bytes
             .extend_from_slice(&[*letter; 512])
             .expect(rt, "memory");
     }
+    bytes
+}
+
+// Blocks of the letters before a plus sign, and what stands behind it.
+fn image<R: Abort>(rt: &R, alloc: Global, letters: &str) -> Vec<u8> {
+    let (letters, rest) = letters.split_once('+').unwrap_or((letters, ""));
+    let mut bytes = blocks(rt, alloc, letters);
     bytes
         .extend_from_slice(rest.as_bytes())
         .expect(rt, "memory");
@@ -140,6 +146,13 @@ fn fail_at<R: Abort>(rt: &R, world: &mut MemWorld, call: u32, lands: bool) {
     world.fail_at(call, lands).expect(rt, "memory")
 }
 
+// Adds the letters of blocks.
+fn push_letters(into: &mut Report, blocks: &[u8]) {
+    for block in blocks.chunks(512) {
+        push_letter(into, block);
+    }
+}
+
 // Adds the letters of the blocks of unit 0 that a crash leaves, where there is such a unit and there are so many events.
 fn push_crash<R: Abort>(
     into: &mut Report,
@@ -151,9 +164,7 @@ fn push_crash<R: Abort>(
 ) {
     if world.has_unit(0) && at <= world.events() {
         let left = world.crash(alloc, 0, at, choice).expect(rt, "memory");
-        for block in left.chunks(512) {
-            push_letter(into, block);
-        }
+        push_letters(into, &left)
     }
 }
 
@@ -164,15 +175,15 @@ fn letter_of(word: &str) -> u8 {
 // Adds what comes of what is done with a unit.
 fn push_unit_step(into: &mut Report, world: &mut MemWorld, step: &str) {
     let unit = unit_of(step);
-    let block = step_number(step, 2);
-    match step_word(step, 0) {
+    let block = blank_number(step, 2);
+    match blank_word(step, 0) {
         "write" => push_done(
             into,
-            write(world, unit, block, letter_of(step_word(step, 3))),
+            write(world, unit, block, letter_of(blank_word(step, 3))),
         ),
         "fill" => push_done(
             into,
-            fill(world, step_number(step, 1), letter_of(step_word(step, 2))),
+            fill(world, blank_number(step, 1), letter_of(blank_word(step, 2))),
         ),
         "sync" => push_done(into, sync(world, unit)),
         "block" => push_block(into, world, unit, block),
@@ -182,11 +193,29 @@ fn push_unit_step(into: &mut Report, world: &mut MemWorld, step: &str) {
 
 // Adds what the world has kept, or what comes of what is done with a unit.
 fn push_kept(into: &mut Report, world: &mut MemWorld, step: &str) {
-    match step_word(step, 0) {
+    match blank_word(step, 0) {
         "events" => into.value(&world.events()),
         "typed" => push_bytes(into, world.typed()),
         "calls" => push_bytes(into, world.calls()),
         _ => push_unit_step(into, world, step),
+    }
+}
+
+// Adds what comes of a call of the world.
+fn push_call(into: &mut Report, world: &mut MemWorld, bytes: &mut [u8; 3], step: &str) {
+    let first = blank_word(step, 1);
+    match blank_word(step, 0) {
+        "attach" => push_attached(
+            into,
+            world,
+            first,
+            blank_number(step, 2),
+            access(blank_word(step, 3)),
+        ),
+        "read" => push_read(into, world, bytes),
+        "type" => push_done(into, type_out(world, first.as_bytes())),
+        "now" => push_time(into, world),
+        _ => push_kept(into, world, step),
     }
 }
 
@@ -199,30 +228,19 @@ fn push_step<R: Abort>(
     bytes: &mut [u8; 3],
     step: &str,
 ) {
-    let first = step_word(step, 1);
-    let second = step_word(step, 2);
-    match step_word(step, 0) {
-        "image" => add_image(rt, alloc, world, first, second),
-        "attach" => push_attached(
-            into,
-            world,
-            first,
-            number(second),
-            access(step_word(step, 3)),
-        ),
-        "read" => push_read(into, world, bytes),
-        "type" => push_done(into, type_out(world, first.as_bytes())),
-        "now" => push_time(into, world),
-        "fail" => fail_at(rt, world, number(first), second == "landed"),
+    let second = blank_word(step, 2);
+    match blank_word(step, 0) {
+        "image" => add_image(rt, alloc, world, blank_word(step, 1), second),
+        "fail" => fail_at(rt, world, blank_number(step, 1), second == "landed"),
         "crash" => push_crash(
             into,
             rt,
             alloc,
             world,
-            number(first) as usize,
+            blank_number(step, 1) as usize,
             second.parse().unwrap_or(u64::MAX),
         ),
-        _ => push_kept(into, world, step),
+        _ => push_call(into, world, bytes, step),
     }
 }
 
@@ -240,7 +258,7 @@ fn push_first_other<R: Abort>(
         let (what, wanted) = step.split_once(" = ").unwrap_or((step, ""));
         push_step(&mut found, rt, alloc, world, &mut bytes, what);
         if found.text() != wanted {
-            return write!(into, "{what} = {}", found.text());
+            return push_other(into, what, found.text());
         }
     }
     into.push_str("true")

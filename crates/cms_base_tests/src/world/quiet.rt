@@ -1,7 +1,6 @@
 // A world that never fails.
-use crate::world::steps::{
-    access, filling, push_bytes, push_done, step_number, step_word, unit_of,
-};
+use crate::texts::{blank_number, blank_word};
+use crate::world::steps::{access, filling, push_bytes, push_done, push_other, unit_of};
 use cms_cases::Report;
 use cms_world::{Access, Image, ImageList, QuietWorld, World};
 use std::alloc::Global;
@@ -30,12 +29,16 @@ fn image<R: Abort>(rt: &R, alloc: Global, name: &str, byte: u8, size: usize) -> 
     }
 }
 
+fn add<R: Abort>(images: &mut ImageList, rt: &R, alloc: Global, name: &str, byte: u8, size: usize) {
+    let image = image(rt, alloc, name, byte, size);
+    images.push(image).expect(rt, "memory")
+}
+
 fn world<R: Abort>(rt: &R, alloc: Global) -> QuietWorld {
     let mut images = ImageList::new(alloc);
-    for (name, byte, size) in [("a", 7, 1100), ("b", 9, 512), ("a", 8, 2048)] {
-        let image = image(rt, alloc, name, byte, size);
-        images.push(image).expect(rt, "memory");
-    }
+    add(&mut images, rt, alloc, "a", 7, 1100);
+    add(&mut images, rt, alloc, "b", 9, 512);
+    add(&mut images, rt, alloc, "a", 8, 2048);
     let script = b"TYPE".as_slice().to_vec(alloc).expect(rt, "memory");
     QuietWorld::new(images, script)
 }
@@ -48,9 +51,16 @@ fn attach(world: &mut QuietWorld, name: &str, access: Access) -> Option<(u8, u32
     }
 }
 
+// Adds a unit and its blocks.
+fn push_pair(into: &mut Report, unit: u8, blocks: u32) {
+    into.value(&unit);
+    into.push(' ');
+    into.value(&blocks)
+}
+
 fn push_attached(into: &mut Report, world: &mut QuietWorld, name: &str, access: Access) {
     match attach(world, name, access) {
-        Some((unit, blocks)) => write!(into, "{unit} {blocks}"),
+        Some((unit, blocks)) => push_pair(into, unit, blocks),
         None => into.push('-'),
     }
 }
@@ -80,7 +90,8 @@ fn push_block(into: &mut Report, world: &mut QuietWorld, unit: u8, block: u32) {
 }
 
 fn push_read(into: &mut Report, world: &mut QuietWorld, bytes: &mut [u8; 3]) {
-    write!(into, "{} ", world.read(bytes).unwrap_or(9));
+    into.value(&world.read(bytes).unwrap_or(9));
+    into.push(' ');
     push_bytes(into, bytes)
 }
 
@@ -92,18 +103,25 @@ fn push_typed(into: &mut Report, world: &mut QuietWorld, bytes: &[u8]) {
     }
 }
 
-// Adds what comes of a step.
-fn push_step(into: &mut Report, world: &mut QuietWorld, bytes: &mut [u8; 3], step: &str) {
-    let name = step_word(step, 1);
-    match step_word(step, 0) {
-        "attach" => push_attached(into, world, name, access(step_word(step, 2))),
-        "many" => push_done(into, attach_many(world, name, step_number(step, 2))),
-        "write" => push_done(into, write(world, unit_of(step))),
-        "block" => push_block(into, world, unit_of(step), step_number(step, 2)),
+// Adds what comes of the script, the clock and what is typed.
+fn push_call(into: &mut Report, world: &mut QuietWorld, bytes: &mut [u8; 3], step: &str) {
+    match blank_word(step, 0) {
         "read" => push_read(into, world, bytes),
-        "type" => push_typed(into, world, name.as_bytes()),
+        "type" => push_typed(into, world, blank_word(step, 1).as_bytes()),
         "now" => into.value(&world.now().unwrap_or(9)),
         _ => into.push('?'),
+    }
+}
+
+// Adds what comes of a step.
+fn push_step(into: &mut Report, world: &mut QuietWorld, bytes: &mut [u8; 3], step: &str) {
+    let name = blank_word(step, 1);
+    match blank_word(step, 0) {
+        "attach" => push_attached(into, world, name, access(blank_word(step, 2))),
+        "many" => push_done(into, attach_many(world, name, blank_number(step, 2))),
+        "write" => push_done(into, write(world, unit_of(step))),
+        "block" => push_block(into, world, unit_of(step), blank_number(step, 2)),
+        _ => push_call(into, world, bytes, step),
     }
 }
 
@@ -115,7 +133,7 @@ fn push_first_other(into: &mut Report, alloc: Global, world: &mut QuietWorld, st
         let (what, wanted) = step.split_once(" = ").unwrap_or((step, ""));
         push_step(&mut found, world, &mut bytes, what);
         if found.text() != wanted {
-            return write!(into, "{what} = {}", found.text());
+            return push_other(into, what, found.text());
         }
     }
     into.push_str("true")

@@ -1,20 +1,11 @@
 // What the steps of a world's sessions say.
+use crate::texts::{are_all, blank_word};
 use cms_cases::{Report, number};
 use cms_world::Access;
 
-/// The word of a step at a place, from 0, where blanks stand between the words. Empty where there is none.
-pub fn step_word(step: &str, place: usize) -> &str {
-    step.split(' ').nth(place).unwrap_or("")
-}
-
-/// The number that a word of a step is.
-pub fn step_number(step: &str, place: usize) -> u32 {
-    number(step_word(step, place))
-}
-
 /// The unit that the second word of a step is; no unit where it is none.
 pub fn unit_of(step: &str) -> u8 {
-    step_word(step, 1).parse().unwrap_or(u8::MAX)
+    blank_word(step, 1).parse().unwrap_or(u8::MAX)
 }
 
 /// The access that a word says: `ro`, `rw`, or behind an `n` how many blocks are made.
@@ -31,6 +22,13 @@ pub fn push_done(into: &mut Report, done: bool) {
     into.push(if done { '.' } else { '-' })
 }
 
+/// Adds a step and what it comes to.
+pub fn push_other(into: &mut Report, what: &str, found: &str) {
+    into.push_str(what);
+    into.push_str(" = ");
+    into.push_str(found)
+}
+
 /// Adds bytes as the text that they are.
 pub fn push_bytes(into: &mut Report, bytes: &[u8]) {
     into.push_str(str::from_utf8(bytes).unwrap_or("?"))
@@ -39,6 +37,8 @@ pub fn push_bytes(into: &mut Report, bytes: &[u8]) {
 /// The byte that fills a block of 512 bytes, if one does.
 pub fn filling(block: &[u8]) -> Option<u8> {
     let first = *block.first()?;
-    let is_filled = block.len() == 512 && block.iter().all(|byte| *byte == first);
-    is_filled.then_some(first)
+    if block.len() == 512 && are_all(block, first) {
+        return Some(first);
+    }
+    None
 }
