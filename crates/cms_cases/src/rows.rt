@@ -29,13 +29,17 @@ fn case_and_answer(row: &str) -> (&str, Option<&str>) {
 }
 
 impl Count {
-    // Tries a row, and tells what is wrong with it. One without an answer is wrong.
+    // Tries a row. One without an answer is wrong.
     fn add<C, S: Subject<C>>(&mut self, rt: &HostRuntime, subject: &S, kind: &C, row: &str) {
         let row = written_out(rt.alloc(), row);
         let (case, answer) = case_and_answer(row.text());
         let mut found = Report::new(rt.alloc());
         subject.tell(kind, case, &mut found);
-        let found = found.text();
+        self.judge(rt, case, found.text(), answer);
+    }
+
+    // Counts a case that comes to something, and tells where its answer is another.
+    fn judge(&mut self, rt: &HostRuntime, case: &str, found: &str, answer: Option<&str>) {
         self.tried = self.tried.saturating_add(1);
         if Some(found) != answer {
             self.wrong = self.wrong.saturating_add(1);
@@ -59,6 +63,24 @@ impl Count {
     }
 }
 
+// Tries the rows of each kind that have a part in them.
+fn try_with<C, S: Subject<C>>(
+    rt: &HostRuntime,
+    subject: &S,
+    rows: &[(C, &str)],
+    part: &str,
+) -> Count {
+    let mut count = Count { tried: 0, wrong: 0 };
+    for (kind, rows) in rows {
+        for row in rows.lines() {
+            if row.contains(part) {
+                count.add(rt, subject, kind, row);
+            }
+        }
+    }
+    count
+}
+
 /// Tries the rows `CASE => ANSWER` of each kind, and tells on standard error of each whose case comes to another answer. A piece in braces,
 /// with a star and a number behind it, stands for so many of it. Where the environment has a text in `CMS_ROW`, only the rows with that text
 /// in them are tried; the test then fails in any case, since it says nothing of the others.
@@ -67,14 +89,8 @@ pub fn try_rows<C, S: Subject<C>>(
     subject: &S,
     rows: &[(C, &str)],
 ) -> Result<(), Fail> {
-    let part = var(rt, ALONE).ok();
-    let mut count = Count { tried: 0, wrong: 0 };
-    for (kind, rows) in rows {
-        for row in rows.lines() {
-            if part.as_ref().is_none_or(|part| row.contains(part.as_str())) {
-                count.add(rt, subject, kind, row);
-            }
-        }
+    match var(rt, ALONE).ok() {
+        Some(part) => try_with(rt, subject, rows, &part).verdict(false),
+        None => try_with(rt, subject, rows, "").verdict(true),
     }
-    count.verdict(part.is_none())
 }

@@ -24,16 +24,22 @@ pub fn byte(digits: &str) -> Option<u8> {
 pub fn bytes_of(alloc: Global, text: &str) -> Result<Vec<u8>, AllocError> {
     let mut bytes = Vec::new(alloc);
     for digits in text.split_ascii_whitespace() {
-        bytes.push(byte(digits).ok_or(AllocError)?)?;
+        let Some(byte) = byte(digits) else {
+            return Err(AllocError);
+        };
+        bytes.push(byte)?;
     }
     Ok(bytes)
 }
 
 // What stands in braces in front of the rest: a piece, and behind a star how often.
 fn repeated(part: &str) -> Option<(&str, usize, &str)> {
-    let (inner, rest) = part.split_once("}")?;
-    let (piece, count) = inner.rsplit_once("*")?;
-    Some((piece, count.parse().ok()?, rest))
+    let (inner, rest) = part.split_once('}')?;
+    let (piece, count) = inner.rsplit_once('*')?;
+    match count.parse() {
+        Ok(count) => Some((piece, count, rest)),
+        Err(_) => None,
+    }
 }
 
 // Adds what stands behind a brace: a piece so often, or the brace and what it is.
@@ -50,7 +56,7 @@ fn push_part(into: &mut Report, part: &str) {
 
 /// A text in which a piece in braces, with a star and a number behind it, stands that many times. Other braces stand as they are.
 pub fn written_out(alloc: Global, text: &str) -> Report {
-    let mut parts = text.split("{");
+    let mut parts = text.split('{');
     let mut whole = Report::new(alloc);
     whole.push_str(parts.next().unwrap_or(""));
     for part in parts {
