@@ -14,9 +14,10 @@ pub const FILE: &[u8] = &[0xC6, 0xC9, 0xD3, 0xC5];
 /// The name of type FILE whose one character is the first of a text in ASCII, if it is a name.
 pub fn file_named(text: &str) -> Option<Name> {
     let letter = from_host(*text.as_bytes().first()?)?;
-    let file = Part::read(&[letter]).ok()?;
-    let kind = Part::read(FILE).ok()?;
-    Some(Name { file, kind })
+    match (Part::read(&[letter]), Part::read(FILE)) {
+        (Ok(file), Ok(kind)) => Some(Name { file, kind }),
+        _ => None,
+    }
 }
 
 // An empty volume whose map has two data blocks.
@@ -38,7 +39,7 @@ pub fn image_named(alloc: Global, name: &str) -> Result<Vec<u8>, AllocError> {
 
 // Puts bytes into an image, by a text of the block, the place in it, and the bytes in hexadecimal digits.
 fn put_text(image: &mut [u8], change: &str) {
-    let mut words = change.split(' ');
+    let mut words = change.split_ascii_whitespace();
     let block = number(words.next().unwrap_or(""));
     let mut at = number(words.next().unwrap_or(""));
     for digits in words {
@@ -51,9 +52,20 @@ fn put_text(image: &mut [u8], change: &str) {
 
 /// Puts bytes into an image, by texts with commas between them: each has the block, the place in it, and the bytes in hexadecimal digits.
 pub fn put_texts(image: &mut [u8], changes: &str) {
-    for change in changes.split(", ") {
+    for change in changes.split(',') {
         put_text(image, change);
     }
+}
+
+// Gives a world an image named `disk`, and one call that fails.
+fn prepare(
+    world: &mut MemWorld,
+    image: &[u8],
+    failing: u32,
+    lands: bool,
+) -> Result<(), AllocError> {
+    world.add_image("disk", image)?;
+    world.fail_at(failing, lands)
 }
 
 /// A world in memory with an image named `disk`, and one call that fails, where the world comes to it: a write may land all the same.
@@ -64,9 +76,7 @@ pub fn world_with(
     lands: bool,
 ) -> Result<MemWorld, AllocError> {
     let mut world = MemWorld::new(alloc, b"", 0)?;
-    world.add_image("disk", image)?;
-    world.fail_at(failing, lands)?;
-    Ok(world)
+    prepare(&mut world, image, failing, lands).and(Ok(world))
 }
 
 /// The letters of all calls of a world.

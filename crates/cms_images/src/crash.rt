@@ -24,8 +24,9 @@ pub fn image_left(
     at: usize,
     choice: u64,
 ) -> Result<Vec<u8>, AllocError> {
-    match crashed(alloc, world, 0, at, choice)? {
-        Some(image) => Ok(image),
-        None => Ok(Vec::new(alloc)),
+    if world.has_unit(0) && at <= world.events() {
+        world.crash(alloc, 0, at, choice)
+    } else {
+        Ok(Vec::new(alloc))
     }
 }

@@ -78,28 +78,30 @@ impl Disk {
 
     /// What a crash after so many events may leave: all that was written, or no more than what was synced.
     pub fn crash(&self, alloc: Global, at: usize, all: bool) -> Result<Vec<u8>, AllocError> {
-        let Some(log) = &self.log else {
-            return self.image.to_vec(alloc);
-        };
-        let kept = if all { at } else { self.synced(at) };
-        let mut image = log.before.to_vec(alloc)?;
-        for event in log.events.iter().take(kept) {
-            if let Event::Wrote { block, bytes } = event {
-                put(image.as_mut_slice(), *block as usize, 0, bytes);
-            }
-        }
+        let events = first_of(self.events(), at);
+        let kept = if all { events.len() } else { synced(events) };
+        let mut image = self.before().to_vec(alloc)?;
+        put_events(image.as_mut_slice(), first_of(events, kept));
         Ok(image)
     }
 
-    // How many of the first events stand before the last sync among them.
-    fn synced(&self, at: usize) -> usize {
-        let mut kept = 0;
-        for (nth, event) in self.events().iter().take(at).enumerate() {
-            if let Event::Synced = event {
-                kept = nth;
-            }
+    // The image before what was asked, where that was kept, and else as it is.
+    fn before(&self) -> &[u8] {
+        match &self.log {
+            Some(log) => &log.before,
+            None => &self.image,
         }
-        kept
+    }
+
+    // Copies what there is of a block, or zeros where this read gives other bytes.
+    fn copy_block(&self, block: u32, into: &mut [u8]) {
+        let start = (block as usize).saturating_sub(1).saturating_mul(512);
+        let rest = self.image.get(start..).unwrap_or(&[]);
+        let count = rest.len().min(into.len());
+        into[..count].copy_from_slice(&rest[..count]);
+        if self.calls == self.altering {
+            into.fill(0);
+        }
     }
 
     // Counts a read or a sync, which may be the one that fails.
@@ -146,6 +148,31 @@ impl Log {
     }
 }
 
+// The first so many of these events, or all.
+fn first_of(events: &[Event], count: usize) -> &[Event] {
+    events.get(..count).unwrap_or(events)
+}
+
+// How many of these events stand before the last sync among them.
+fn synced(events: &[Event]) -> usize {
+    let mut kept = 0;
+    for (nth, event) in events.iter().enumerate() {
+        if let Event::Synced = event {
+            kept = nth;
+        }
+    }
+    kept
+}
+
+// Puts what these events wrote.
+fn put_events(image: &mut [u8], events: &[Event]) {
+    for event in events {
+        if let Event::Wrote { block, bytes } = event {
+            put(image, *block as usize, 0, bytes);
+        }
+    }
+}
+
 impl World for Disk {
     ghost faults = { λ w. w.failures };
 
@@ -161,18 +188,11 @@ impl World for Disk {
     }
 
     fn read_block(&mut self, _unit: u8, block: u32, into: &mut [u8]) -> Result<(), Failed> {
-        match self.call() {
-            Ok(()) => {}
-            Err(Failed) => return Err(Failed),
+        let called = self.call();
+        if called.is_ok() {
+            self.copy_block(block, into);
         }
-        let start = (block as usize).saturating_sub(1).saturating_mul(512);
-        let rest = self.image.get(start..).unwrap_or(&[]);
-        let count = rest.len().min(into.len());
-        into[..count].copy_from_slice(&rest[..count]);
-        if self.calls == self.altering {
-            into.fill(0);
-        }
-        Ok(())
+        called
     }
 
     fn write_block(&mut self, _unit: u8, block: u32, from: &[u8]) -> Result<(), Failed> {

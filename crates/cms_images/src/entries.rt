@@ -35,15 +35,33 @@ pub fn put_number(image: &mut [u8], start: usize, number: u32) {
     put_at(image, start, &number.to_be_bytes());
 }
 
+/// Puts numbers of four bytes one behind another, from a place of an image on.
+pub fn put_numbers(image: &mut [u8], start: usize, numbers: &[u32]) {
+    for (nth, number) in numbers.iter().enumerate() {
+        put_number(image, start.saturating_add(nth.saturating_mul(4)), *number);
+    }
+}
+
+/// Puts the label of TEST01 at a place of an image: what it is, the volume id, and its numbers, from that of the bytes of a block on.
+pub fn put_label(image: &mut [u8], start: usize, numbers: &[u32]) {
+    put_at(
+        image,
+        start,
+        &[0xC3, 0xD4, 0xE2, 0xF1, 0xE3, 0xC5, 0xE2, 0xE3, 0xF0, 0xF1],
+    );
+    put_numbers(image, start.saturating_add(12), numbers);
+}
+
 /// Puts an entry at a place of an image.
 pub fn put_entry(image: &mut [u8], start: usize, entry: &Entry) {
     put_at(image, start, &entry.name);
     put_at(image, start.saturating_add(24), &[0xC1, 0xF1]);
     put_at(image, start.saturating_add(30), &entry.format);
-    put_number(image, start.saturating_add(32), entry.length);
-    put_number(image, start.saturating_add(40), entry.root);
-    put_number(image, start.saturating_add(44), entry.blocks);
-    put_number(image, start.saturating_add(48), entry.records);
+    put_numbers(
+        image,
+        start.saturating_add(32),
+        &[entry.length, 0, entry.root, entry.blocks, entry.records],
+    );
     put_at(image, start.saturating_add(52), &entry.levels);
     put_at(image, start.saturating_add(54), &entry.stamp);
 }

@@ -1,5 +1,6 @@
 //! Volumes of 512-byte blocks as a system would leave them, one after another change.
-use crate::edits::put_at;
+use crate::edits::{put_at, zeros};
+use crate::entries;
 use crate::entries::{DIRECTORY, Entry, MAP, put_entry};
 use crate::many::start_of;
 use std::alloc::{AllocError, Global};
@@ -46,7 +47,7 @@ enum Change {
 }
 
 // TEST01 with 9 blocks as it was formatted: the directory in block 4, the map in block 6, no files.
-const EMPTY: &[Change] = &[
+static EMPTY: &[Change] = &[
     Change::Label(4, 9, 6),
     Change::Entry(4, 0, Of::Directory, Row(4, 1, 2, 0, 0)),
     Change::Entry(4, 64, Of::Map, Row(6, 1, 1, 0, 0)),
@@ -54,7 +55,7 @@ const EMPTY: &[Change] = &[
 ];
 
 // Then A FILE is written, one record HELLO: its data in block 7, the new map in block 8, the new directory in block 5.
-const ONE_FILE: &[Change] = &[
+static ONE_FILE: &[Change] = &[
     Change::Hello(7, 7),
     Change::Bytes(8, 0, &[0xFB, 0x00]),
     Change::Entry(5, 0, Of::Directory, Row(5, 1, 3, 0, 2)),
@@ -64,7 +65,7 @@ const ONE_FILE: &[Change] = &[
 ];
 
 // Then A FILE is erased again: the map in block 6, the directory in block 4; blocks 5, 7 and 8 stay as they were.
-const ERASED: &[Change] = &[
+static ERASED: &[Change] = &[
     Change::Entry(4, 0, Of::Directory, Row(4, 1, 2, 0, 0)),
     Change::Entry(4, 64, Of::Map, Row(6, 1, 1, 0, 0)),
     Change::Bytes(6, 0, &[0xFC, 0x00]),
@@ -72,7 +73,7 @@ const ERASED: &[Change] = &[
 ];
 
 // Or B FILE is written behind A FILE: its data in block 6, the map in block 9, the directory in block 4.
-const TWO_FILES: &[Change] = &[
+static TWO_FILES: &[Change] = &[
     Change::Hello(6, 6),
     Change::Bytes(9, 0, &[0xFE, 0x80]),
     Change::Entry(4, 0, Of::Directory, Row(4, 1, 4, 0, 3)),
@@ -83,7 +84,7 @@ const TWO_FILES: &[Change] = &[
 ];
 
 // A volume of 12 blocks with V FILE, records of 509 and 3 bytes: data in blocks 7 and 8, the pointer block in block 9.
-const SPANNING: &[Change] = &[
+static SPANNING: &[Change] = &[
     Change::Label(4, 12, 9),
     Change::Entry(4, 0, Of::Directory, Row(4, 1, 3, 0, 0)),
     Change::Entry(4, 64, Of::Map, Row(6, 1, 1, 0, 0)),
@@ -97,7 +98,7 @@ const SPANNING: &[Change] = &[
 ];
 
 // The empty volume with A FILE in block 7, and blocks 8 and 9 marked but not met.
-const FULL: &[Change] = &[
+static FULL: &[Change] = &[
     Change::Entry(4, 0, Of::Directory, Row(4, 1, 3, 0, 0)),
     Change::Entry(4, 128, Of::File(0xC1, 5), Row(7, 1, 1, 0, 0)),
     Change::Bytes(6, 0, &[0xFF, 0x80]),
@@ -106,7 +107,7 @@ const FULL: &[Change] = &[
 ];
 
 // A volume of 16 blocks with the files A to G: the directory in blocks 4 and 8 below the pointer block 7, the data in blocks 9 to 15.
-const LONG_DIRECTORY: &[Change] = &[
+static LONG_DIRECTORY: &[Change] = &[
     Change::Label(4, 16, 15),
     Change::Entry(4, 0, Of::Directory, Row(7, 2, 9, 1, 0)),
     Change::Entry(4, 64, Of::Map, Row(6, 1, 1, 0, 0)),
@@ -123,13 +124,13 @@ const LONG_DIRECTORY: &[Change] = &[
 ];
 
 // It has 17 blocks, of which its label says.
-const ON_17: &[Change] = &[Change::Bytes(3, 31, &[17])];
+static ON_17: &[Change] = &[Change::Bytes(3, 31, &[17])];
 
 // It has 20 blocks, of which its label says.
-const ON_20: &[Change] = &[Change::Bytes(3, 31, &[20])];
+static ON_20: &[Change] = &[Change::Bytes(3, 31, &[20])];
 
 // The files A to P: the directory in blocks 4, 7 and 8 below the pointer block 9, the data in blocks 10 to 25.
-const SIXTEEN_FILES: &[Change] = &[
+static SIXTEEN_FILES: &[Change] = &[
     Change::Entry(4, 0, Of::Directory, Row(9, 3, 18, 1, 0)),
     Change::Entry(4, 64, Of::Map, Row(6, 1, 1, 0, 0)),
     Change::Entry(4, 128, Of::File(0xC1, 5), Row(10, 1, 1, 0, 0)),
@@ -154,13 +155,13 @@ const SIXTEEN_FILES: &[Change] = &[
 ];
 
 // Of them, the label of a volume of 27 blocks.
-const LABEL_27: &[Change] = &[Change::Label(4, 27, 25)];
+static LABEL_27: &[Change] = &[Change::Label(4, 27, 25)];
 
 // Of them, the label of a volume of 28 blocks.
-const LABEL_28: &[Change] = &[Change::Label(4, 28, 25)];
+static LABEL_28: &[Change] = &[Change::Label(4, 28, 25)];
 
 // A volume of 4,112 blocks with A FILE in block 9: the directory in block 4, the map in blocks 6 and 7 below the pointer block 8.
-const WIDE_MAP: &[Change] = &[
+static WIDE_MAP: &[Change] = &[
     Change::Label(4, 4112, 9),
     Change::Entry(4, 0, Of::Directory, Row(4, 1, 3, 0, 0)),
     Change::Entry(4, 64, Of::Map, Row(8, 2, 2, 1, 0)),
@@ -208,7 +209,7 @@ fn changes_of(table: Table) -> &'static [Change] {
 }
 
 // The volumes by their names: their blocks, and what was written.
-const VOLUMES: &[(&str, usize, &[Table])] = &[
+static VOLUMES: &[(&str, usize, &[Table])] = &[
     ("zeros", 9, &[]),
     ("empty", 9, &[Table::Empty]),
     ("one file", 9, &[Table::Empty, Table::OneFile]),
@@ -242,19 +243,9 @@ const VOLUMES: &[(&str, usize, &[Table])] = &[
 
 // Puts the label.
 fn put_label(image: &mut [u8], origin: u32, total: u32, in_use: u32) {
-    put(
-        image,
-        3,
-        0,
-        &[0xC3, 0xD4, 0xE2, 0xF1, 0xE3, 0xC5, 0xE2, 0xE3, 0xF0, 0xF1],
-    );
-    put_number(image, 3, 12, 512);
-    put_number(image, 3, 16, origin);
-    put_number(image, 3, 20, total);
-    put_number(image, 3, 24, total);
-    put_number(image, 3, 28, total);
-    put_number(image, 3, 32, in_use);
-    put(image, 3, 36, &[0, 0, 0, 64, 0, 0, 0, 8, 0x00, 0x01, 0x01]);
+    let numbers = [512, origin, total, total, total, in_use, 64, 8];
+    entries::put_label(image, start_of(512, 3), &numbers);
+    put(image, 3, 44, &[0x00, 0x01, 0x01]);
 }
 
 // The name of A FILE, as it is written.
@@ -317,14 +308,19 @@ fn put_change(image: &mut [u8], change: &Change) {
     }
 }
 
-// A volume of so many blocks, with what was written.
-fn volume(alloc: Global, blocks: usize, tables: &[Table]) -> Result<Vec<u8>, AllocError> {
-    let mut image = vec![in alloc; 0; blocks.saturating_mul(BLOCK)]?;
+// Puts what stands in these tables, one after another.
+fn put_tables(image: &mut [u8], tables: &[Table]) {
     for table in tables {
         for change in changes_of(*table) {
-            put_change(image.as_mut_slice(), change);
+            put_change(image, change);
         }
     }
+}
+
+// A volume of so many blocks, with what was written.
+fn volume(alloc: Global, blocks: usize, tables: &[Table]) -> Result<Vec<u8>, AllocError> {
+    let mut image = zeros(alloc, blocks.saturating_mul(BLOCK))?;
+    put_tables(image.as_mut_slice(), tables);
     Ok(image)
 }
 

@@ -1,9 +1,9 @@
 // Small volumes of any block size, with many files.
 ghost use Rattle.std.specs.Prelude.{◌≤◌};
 
-use crate::edits::put_at;
+use crate::edits::{put_at, zeros};
 use crate::entries;
-use crate::entries::{DIRECTORY, Entry, MAP, put_number};
+use crate::entries::{DIRECTORY, Entry, MAP, put_label};
 use std::alloc::{AllocError, Global};
 
 // FILE0000 TEXT.
@@ -61,18 +61,14 @@ pub fn put_marks(image: &mut [u8], start: usize, last: u32) {
     }
 }
 
-/// Puts the label of TEST01 on so many blocks.
-pub fn put_label(image: &mut [u8], bsize: u32, blocks: u32) {
-    let label = start_of(bsize, 3);
-    put_at(
-        image,
-        label,
-        &[0xC3, 0xD4, 0xE2, 0xF1, 0xE3, 0xC5, 0xE2, 0xE3, 0xF0, 0xF1],
-    );
-    put_number(image, label.saturating_add(12), bsize);
-    put_number(image, label.saturating_add(16), 4);
-    put_number(image, label.saturating_add(28), blocks);
-    put_number(image, label.saturating_add(36), 64);
+/// Puts what a volume with so many files of one block each has beside them: the label of TEST01 on so many blocks, the entries of the
+/// directory and of the map in block 4, and the marks of the map in block 6.
+pub fn put_system(image: &mut [u8], bsize: u32, blocks: u32, files: u32) {
+    put_label(image, start_of(bsize, 3), &[bsize, 4, 0, 0, blocks, 0, 64]);
+    let directory = start_of(bsize, 4);
+    put_entry(image, directory, &DIRECTORY, 64, files.saturating_add(2), 4);
+    put_entry(image, directory.saturating_add(64), &MAP, bsize, 1, 6);
+    put_marks(image, start_of(bsize, 6), files.saturating_add(6));
 }
 
 // Puts a file of a number, from 1: its entry behind those of the directory and the map, and its records.
@@ -98,13 +94,9 @@ pub fn many_files(alloc: Global, bsize: u32, blocks: u32, files: u32) -> Result<
     requires size { bsize ≤ 4096 }
     requires blocks { blocks ≤ 65536 }
 {
-    let mut volume = vec![in alloc; 0; blocks as usize * bsize as usize]?;
+    let mut volume = zeros(alloc, blocks as usize * bsize as usize)?;
     let image = volume.as_mut_slice();
-    put_label(image, bsize, blocks);
-    let directory = start_of(bsize, 4);
-    put_entry(image, directory, &DIRECTORY, 64, files.saturating_add(2), 4);
-    put_entry(image, directory.saturating_add(64), &MAP, bsize, 1, 6);
-    put_marks(image, start_of(bsize, 6), files.saturating_add(6));
+    put_system(image, bsize, blocks, files);
     for number in 1..files.saturating_add(1) {
         put_file(image, bsize, number);
     }

@@ -1,5 +1,5 @@
 // What a volume is that was made and not used yet.
-use crate::edits::put_at;
+use crate::edits::{put_at, zeros};
 use crate::entries;
 use crate::entries::{DIRECTORY, Entry, MAP, put_number};
 use crate::many::{put_marks, start_of};
@@ -21,7 +21,7 @@ pub struct Made {
 /// The image of a volume TEST01 that was made at noon on 1 July 2026 on blocks of zeros: the directory in block 4, the map from block 6 on.
 pub fn formatted(alloc: Global, made: &Made) -> Result<Vec<u8>, AllocError> {
     let size = (made.bsize as usize).saturating_mul(made.total as usize);
-    let mut bytes = vec![in alloc; 0; size]?;
+    let mut bytes = zeros(alloc, size)?;
     let image = bytes.as_mut_slice();
     put_label(image, made);
     put_directory(image, made);
@@ -36,17 +36,13 @@ fn used(made: &Made) -> u32 {
 
 // Block 3.
 fn put_label(image: &mut [u8], made: &Made) {
-    let start = start_of(made.bsize, 3);
-    let head = [0xC3, 0xD4, 0xE2, 0xF1, 0xE3, 0xC5, 0xE2, 0xE3, 0xF0, 0xF1];
-    put_at(image, start, &head);
-    put_number(image, start.saturating_add(12), made.bsize);
-    put_number(image, start.saturating_add(16), 4);
-    put_number(image, start.saturating_add(20), made.total);
-    put_number(image, start.saturating_add(24), made.total);
-    put_number(image, start.saturating_add(28), made.total);
-    put_number(image, start.saturating_add(32), used(made));
-    put_number(image, start.saturating_add(36), 64);
-    put_number(image, start.saturating_add(40), made.bsize / 64);
+    let Made { bsize, total, .. } = *made;
+    let start = start_of(bsize, 3);
+    entries::put_label(
+        image,
+        start,
+        &[bsize, 4, total, total, total, used(made), 64, bsize / 64],
+    );
     let noon = [0x26, 0x07, 0x01, 0x12, 0x00, 0x00];
     put_at(image, start.saturating_add(44), &noon);
 }

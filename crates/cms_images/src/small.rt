@@ -1,7 +1,7 @@
 // Volumes of a few files, each of one data block.
-use crate::edits::put_at;
-use crate::entries::{DIRECTORY, MAP, put_number};
-use crate::many::{put_entry, put_label, put_marks, start_of};
+use crate::edits::{put_at, zeros};
+use crate::entries::{Entry, put_entry, put_number};
+use crate::many::{put_system, start_of};
 use std::alloc::{AllocError, Global};
 
 const SIZE: u32 = 512;
@@ -42,8 +42,8 @@ fn small(length: usize) -> u16 {
 
 // Puts a text at a place.
 fn put_text(image: &mut [u8], start: usize, text: &str) {
-    for (nth, byte) in text.bytes().enumerate() {
-        put_at(image, start.saturating_add(nth), &[coded(byte)]);
+    for (nth, byte) in text.as_bytes().iter().enumerate() {
+        put_at(image, start.saturating_add(nth), &[coded(*byte)]);
     }
 }
 
@@ -72,32 +72,42 @@ fn put_records(image: &mut [u8], root: u32, file: &SmallFile) -> u32 {
     longest
 }
 
-// Puts a file of a place, from 0: its entry behind those of the directory and the map, and its records. It was written in the last second
-// of 1999.
+// The entry of a file with this root and this length of its longest record. It was written in the last second of 1999.
+fn entry_of(file: &SmallFile, root: u32, longest: u32) -> Entry {
+    let (format, pointer) = if file.fixed { (0xC6, 4) } else { (0xE5, 12) };
+    Entry {
+        name: name_of(file),
+        format: [format, 0x00],
+        length: longest,
+        root,
+        blocks: 1,
+        records: u32::from(small(file.records.len())),
+        levels: [0, pointer],
+        stamp: [0x99, 0x12, 0x31, 0x23, 0x59, 0x59],
+    }
+}
+
+// Puts a file of a place, from 0: its entry behind those of the directory and the map, and its records.
 fn put_file(image: &mut [u8], place: u32, file: &SmallFile) {
     let root = place.saturating_add(FIRST);
     let longest = put_records(image, root, file);
     let entry = start_of(SIZE, 4).saturating_add(
         (place as usize).saturating_add(2).saturating_mul(64),
     );
-    put_entry(
-        image,
-        entry,
-        &name_of(file),
-        longest,
-        u32::from(small(file.records.len())),
-        root,
-    );
+    put_entry(image, entry, &entry_of(file, root, longest));
     put_at(image, entry.saturating_add(25), &[0xF0 + file.number % 10]);
-    if !file.fixed {
-        put_at(image, entry.saturating_add(30), &[0xE5]);
-        put_at(image, entry.saturating_add(53), &[12]);
+}
+
+// Puts all that a volume of this volume id has with these files.
+fn put_volume(image: &mut [u8], volid: &str, files: &[SmallFile]) {
+    let count = u32::from(small(files.len()));
+    let label = start_of(SIZE, 3);
+    put_system(image, SIZE, BLOCKS, count);
+    put_text(image, label.saturating_add(4), volid);
+    put_number(image, label.saturating_add(32), count.saturating_add(6));
+    for (place, file) in files.iter().enumerate() {
+        put_file(image, u32::from(small(place)), file);
     }
-    put_at(
-        image,
-        entry.saturating_add(54),
-        &[0x99, 0x12, 0x31, 0x23, 0x59, 0x59],
-    );
 }
 
 /// A volume of this volume id on 24 blocks of 512 bytes: the directory in block 4, the map in block 6, and from block 7 on these files, at
@@ -107,22 +117,8 @@ pub fn small_volume(
     volid: &str,
     files: &[SmallFile],
 ) -> Result<Vec<u8>, AllocError> {
-    let mut volume = vec![in alloc; 0; BLOCKS as usize * SIZE as usize]?;
-    let image = volume.as_mut_slice();
-    let count = u32::from(small(files.len().min(6)));
-    let directory = start_of(SIZE, 4);
-    put_label(image, SIZE, BLOCKS);
-    put_text(image, start_of(SIZE, 3).saturating_add(4), volid);
-    put_number(
-        image,
-        start_of(SIZE, 3).saturating_add(32),
-        count.saturating_add(6),
-    );
-    put_entry(image, directory, &DIRECTORY, 64, count.saturating_add(2), 4);
-    put_entry(image, directory.saturating_add(64), &MAP, SIZE, 1, 6);
-    put_marks(image, start_of(SIZE, 6), count.saturating_add(6));
-    for (place, file) in (0..count).zip(files) {
-        put_file(image, place, file);
-    }
+    let mut volume = zeros(alloc, BLOCKS as usize * SIZE as usize)?;
+    let files = files.get(..6).unwrap_or(files);
+    put_volume(volume.as_mut_slice(), volid, files);
     Ok(volume)
 }

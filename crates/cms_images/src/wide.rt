@@ -1,8 +1,8 @@
 // A volume whose directory and map have several blocks.
-use crate::edits::put_at;
-use crate::entries::{DIRECTORY, MAP};
+use crate::edits::{put_at, zeros};
+use crate::entries::{DIRECTORY, MAP, put_label, put_numbers};
 use crate::known::{put, put_number};
-use crate::many::{digits, name_of, put_entry, put_label, put_marks, start_of};
+use crate::many::{digits, name_of, put_entry, put_marks, start_of};
 use std::alloc::{AllocError, Global};
 
 const SIZE: u32 = 512;
@@ -33,10 +33,24 @@ fn put_level(image: &mut [u8], at: usize, blocks: u32) {
     put(image, 4, at.saturating_add(52), &[1]);
 }
 
-// Puts the blocks to which a pointer block points.
-fn put_pointers(image: &mut [u8], block: usize, pointers: &[u32]) {
-    for (place, pointer) in pointers.iter().enumerate() {
-        put_number(image, block, place.saturating_mul(4), *pointer);
+// Puts the label, the entries of the directory and of the map with their pointer blocks, and the marks of the map.
+fn put_system(image: &mut [u8]) {
+    put_label(image, start_of(SIZE, 3), &[SIZE, 4, 0, 0, BLOCKS, 0, 64]);
+    put_entry(image, entry_at(0), &DIRECTORY, 64, FILES + 2, 11);
+    put_level(image, 0, 3);
+    put_numbers(image, start_of(SIZE, 11), &ENTRIES);
+    put_entry(image, entry_at(1), &MAP, SIZE, 2, 8);
+    put_level(image, 64, 2);
+    put_numbers(image, start_of(SIZE, 8), &[6, 7]);
+    put_marks(image, start_of(SIZE, 6), LAST);
+}
+
+// Puts the files: their entries and their records.
+fn put_files(image: &mut [u8]) {
+    for number in 1..FILES + 1 {
+        let root = number + 11;
+        put_entry(image, entry_at(number + 1), &name_of(number), 4, 1, root);
+        put_at(image, start_of(SIZE, root), &digits(number));
     }
 }
 
@@ -44,20 +58,8 @@ fn put_pointers(image: &mut [u8], block: usize, pointers: &[u32]) {
 /// the pointer block 8, and from block 12 on the files FILE0001 TEXT A1 to FILE0020 TEXT A1, each with one record, the four digits of its
 /// number.
 pub fn wide_volume(alloc: Global) -> Result<Vec<u8>, AllocError> {
-    let mut volume = vec![in alloc; 0; BLOCKS as usize * SIZE as usize]?;
-    let image = volume.as_mut_slice();
-    put_label(image, SIZE, BLOCKS);
-    put_entry(image, entry_at(0), &DIRECTORY, 64, FILES + 2, 11);
-    put_level(image, 0, 3);
-    put_pointers(image, 11, &ENTRIES);
-    put_entry(image, entry_at(1), &MAP, SIZE, 2, 8);
-    put_level(image, 64, 2);
-    put_pointers(image, 8, &[6, 7]);
-    put_marks(image, start_of(SIZE, 6), LAST);
-    for number in 1..FILES + 1 {
-        let root = number + 11;
-        put_entry(image, entry_at(number + 1), &name_of(number), 4, 1, root);
-        put_at(image, start_of(SIZE, root), &digits(number));
-    }
+    let mut volume = zeros(alloc, BLOCKS as usize * SIZE as usize)?;
+    put_system(volume.as_mut_slice());
+    put_files(volume.as_mut_slice());
     Ok(volume)
 }
