@@ -12,6 +12,11 @@ pub struct Asked<'a, R: Abort> {
     pub alloc: Global,
 }
 
+/// The word of a text at a place, from 0, where a blank stands between the words. Empty where there is none.
+pub fn word_of(text: &str, place: usize) -> &str {
+    text.split(' ').nth(place).unwrap_or("")
+}
+
 // Whose cases they are.
 #[derive(Clone, Copy)]
 enum Cases {

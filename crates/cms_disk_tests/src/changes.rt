@@ -1,4 +1,5 @@
 // Changes of minidisks on a world in memory, and what a crash leaves of them.
+use crate::cases::word_of;
 use crate::disk::{access_of, info_of, minidisk, push_letters};
 use cms_cases::{Report, number, word};
 use cms_disk::{DiskFault, Minidisk};
@@ -118,17 +119,21 @@ enum Asked {
     Century(u32),
 }
 
+// A renaming of a file, where both are names.
+fn renaming(from: Option<Name>, to: Option<Name>) -> Option<Asked> {
+    match (from, to) {
+        (Some(from), Some(to)) => Some(Asked::Rename(from, to)),
+        _ => None,
+    }
+}
+
 // What a text asks for: `erase A`, `rename A B`, `century 70` or `relabel`.
 fn asked_by(text: &str) -> Option<Asked> {
-    let mut words = text.split(' ');
-    match words.next()? {
-        "erase" => Some(Asked::Erase(file_named(words.next()?)?)),
-        "rename" => {
-            let from = file_named(words.next()?)?;
-            let to = file_named(words.next()?)?;
-            Some(Asked::Rename(from, to))
-        }
-        "century" => Some(Asked::Century(number(words.next()?).min(100))),
+    let (first, second) = (word_of(text, 1), word_of(text, 2));
+    match word_of(text, 0) {
+        "erase" => file_named(first).map(Asked::Erase),
+        "rename" => renaming(file_named(first), file_named(second)),
+        "century" => Some(Asked::Century(number(first).min(100))),
         _ => Some(Asked::Relabel),
     }
 }

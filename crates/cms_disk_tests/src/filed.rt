@@ -3,7 +3,7 @@ ghost use Rattle.std.specs.Prelude.{◌≡◌, ◌⊎◌};
 
 use cms_cases::number;
 use cms_images::known::{put, put_number};
-use cms_images::{DIRECTORY, Entry, MAP, put_entry};
+use cms_images::{DIRECTORY, Entry, MAP, digits, put_entry, put_label, zeros};
 use std::alloc::Global;
 use std::process::Abort;
 
@@ -112,13 +112,14 @@ impl Filed {
 
 // The file of a text: its format, and the lengths of its records, each perhaps with how many have it, as `F 512*300` or `V 509 3`.
 fn read_file<R: Abort>(rt: &R, alloc: Global, text: &str) -> Filed {
+    let mut words = text.split_ascii_whitespace();
     let mut file = Filed {
-        is_wide: text.starts_with("V"),
+        is_wide: words.next().unwrap_or("") == "V",
         data: Vec::new(alloc),
         begins: Vec::new(alloc),
         longest: 0,
     };
-    for part in text.split(' ').skip(1) {
+    for part in words {
         file.add_part(rt, part);
     }
     file
@@ -240,16 +241,18 @@ impl Paper {
 
     // Puts files, as their texts say them.
     fn put_files<R: Abort>(&mut self, rt: &R, listing: &[Cell], files: &str) {
-        for (place, text) in files.split(", ").enumerate() {
+        let mut place = 0_u32;
+        for text in files.split(',') {
             let file = read_file(rt, self.alloc, text);
-            let row = self.put_file(rt, short(place), &file);
-            self.put_row(listing, place.saturating_add(2), &row);
+            let row = self.put_file(rt, place, &file);
+            place = place.saturating_add(1);
+            self.put_row(listing, place.saturating_add(1) as usize, &row);
         }
     }
 
     // Puts all that a volume of so many blocks with these files has.
     fn put_all<R: Abort>(&mut self, rt: &R, blocks: u32, files: &str) {
-        let count = short(files.split(", ").count()).saturating_add(2);
+        let count = short(files.split(',').count()).saturating_add(2);
         let map = self.take_all(rt, None, blocks.div_ceil(4096));
         let map_tree = self.hang(rt, &map, false);
         let listing = self.take_all(rt, Some(4), count.div_ceil(8));
@@ -277,37 +280,20 @@ impl Paper {
 
     fn put_label(&mut self, blocks: u32) {
         let in_use = self.next.saturating_sub(1);
-        let image = self.image.as_mut_slice();
-        put(image, 3, 0, &[0xC3, 0xD4, 0xE2, 0xF1]);
-        put(image, 3, 4, &[0xE3, 0xC5, 0xE2, 0xE3, 0xF0, 0xF1]);
-        put_number(image, 3, 12, 512);
-        put_number(image, 3, 16, 4);
-        put_number(image, 3, 28, blocks);
-        put_number(image, 3, 32, in_use);
-        put_number(image, 3, 36, 64);
+        put_label(
+            self.image.as_mut_slice(),
+            2 * SIZE,
+            &[512, 4, 0, 0, blocks, in_use, 64],
+        );
     }
 }
 
 // F0000 FILE, by the file's place.
 fn name_of(place: u32) -> [u8; 16] {
-    let digit = |power: u32| 0xF0 + (place / power % 10) as u8;
+    let [thousands, hundreds, tens, ones] = digits(place);
     [
-        0xC6,
-        digit(1000),
-        digit(100),
-        digit(10),
-        digit(1),
-        0x40,
-        0x40,
-        0x40,
-        0xC6,
-        0xC9,
-        0xD3,
-        0xC5,
-        0x40,
-        0x40,
-        0x40,
-        0x40,
+        0xC6, thousands, hundreds, tens, ones, 0x40, 0x40, 0x40, 0xC6, 0xC9, 0xD3, 0xC5, 0x40,
+        0x40, 0x40, 0x40,
     ]
 }
 
@@ -343,7 +329,7 @@ pub fn volume_of<R: Abort>(rt: &R, alloc: Global, blocks: u32, files: &str) -> V
     let size = (blocks as usize).saturating_mul(SIZE);
     let mut paper = Paper {
         alloc,
-        image: vec![in alloc; 0; size].expect(rt, "memory"),
+        image: zeros(alloc, size).expect(rt, "memory"),
         next: 6,
     };
     paper.put_all(rt, blocks, files);

@@ -3,7 +3,7 @@ ghost use Rattle.std.specs.Prelude.{◌≡◌, ◌<◌, true, IfOk};
 ghost use Rattle.cms_model.specs.Records.{IsValid};
 
 use cms_disk::{FileData, Minidisk, Stored, UnitInfo};
-use cms_images::START;
+use cms_images::{START, digits};
 use cms_journal::BlockSize;
 use cms_names::{Format, Name, Part};
 use cms_world::{ImageList, QuietWorld, Unit};
@@ -42,24 +42,16 @@ fn device() -> UnitInfo
     }
 }
 
-fn digit(number: u16, unit: u16) -> u8
-    requires { 0 < unit }
-{
-    0xF0 + (number / unit % 10) as u8
-}
-
 // A letter and four digits.
 fn name_of(letter: u8, number: u16) -> Option<Name> {
-    let digits = [
-        letter,
-        digit(number, 1_000),
-        digit(number, 100),
-        digit(number, 10),
-        digit(number, 1),
-    ];
-    let file = Part::read(&digits).ok()?;
-    let kind = Part::read(&[letter]).ok()?;
-    Some(Name { file, kind })
+    let [thousands, hundreds, tens, ones] = digits(u32::from(number));
+    match (
+        Part::read(&[letter, thousands, hundreds, tens, ones]),
+        Part::read(&[letter]),
+    ) {
+        (Ok(file), Ok(kind)) => Some(Name { file, kind }),
+        _ => None,
+    }
 }
 
 // One record of a byte.
@@ -77,9 +69,14 @@ fn byte(alloc: Global) -> Result<FileData, AllocError>
     })
 }
 
-// Puts all of the files.
+// Puts all of the files, each with these records.
 #[tactic(auto, unfolding(cms_fields::specs::Stamps::is_stamp, cms_fields::specs::Stamps::days_of_month))]
-fn fill(alloc: Global, world: &mut QuietWorld, disk: &mut Minidisk, file: &FileData) -> Option<()>
+fn fill_with(
+    alloc: Global,
+    world: &mut QuietWorld,
+    disk: &mut Minidisk,
+    file: &FileData,
+) -> Option<()>
     requires { IsValid file.now }
 {
     for number in 0..FILES {
@@ -89,13 +86,22 @@ fn fill(alloc: Global, world: &mut QuietWorld, disk: &mut Minidisk, file: &FileD
     Some(())
 }
 
+// Puts all of the files.
+fn fill(alloc: Global, world: &mut QuietWorld, disk: &mut Minidisk) -> Option<()> {
+    match byte(alloc) {
+        Ok(file) => fill_with(alloc, world, disk, &file),
+        Err(_) => None,
+    }
+}
+
 // A new minidisk with all of the files.
 #[tactic(auto, unfolding(cms_fields::specs::Stamps::is_stamp, cms_fields::specs::Stamps::days_of_month))]
 fn filled(alloc: Global, world: &mut QuietWorld) -> Option<Minidisk> {
-    let file = byte(alloc).ok()?;
-    let mut disk = Minidisk::make(alloc, world, &device(), VOLID, &START).ok()?;
-    fill(alloc, world, &mut disk, &file)?;
-    Some(disk)
+    let Ok(mut disk) = Minidisk::make(alloc, world, &device(), VOLID, &START) else {
+        return None;
+    };
+    let done = fill(alloc, world, &mut disk);
+    done.and(Some(disk))
 }
 
 // Erases every third file, in the order of their numbers.

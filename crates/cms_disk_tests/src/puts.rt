@@ -143,7 +143,11 @@ fn all_on(
 
 // Adds the bytes of the file of the last letter, or why there are none.
 fn push_bytes(into: &mut Report, alloc: Global, world: &mut Disk, disk: &Minidisk, letters: &str) {
-    let Some(name) = file_named(letters.split(' ').last().unwrap_or("")) else {
+    let last = match letters.rsplit_once(' ') {
+        Some((_, last)) => last,
+        None => letters,
+    };
+    let Some(name) = file_named(last) else {
         return;
     };
     match disk.get(alloc, world, &name) {

@@ -3,6 +3,7 @@ ghost use Rattle.std.specs.Prelude.{◌≡◌, IfOk, IsTrue};
 ghost use Rattle.cms_names.specs.declared.name.Format.TheVariants.{F};
 ghost use Rattle.cms_model.specs.Records.{IsValid};
 
+use crate::cases::word_of;
 use crate::disk::minidisk;
 use crate::filed::volume_of;
 use cms_cases::{Report, number, word};
@@ -218,7 +219,40 @@ fn answer_to(
     }
 }
 
-// Does with the file of a place, and perhaps that of another, what is asked.
+// Does with the file of a place, and perhaps the records of another, what is asked.
+fn change_file(
+    alloc: Global,
+    world: &mut Disk,
+    disk: &mut Minidisk,
+    asked: &str,
+    place: u32,
+    old: &FileData,
+    more: &FileData,
+) -> Result<Done, DiskFault>
+    requires { IsValid more.now }
+{
+    if place >= disk.count() {
+        return Err(DiskFault::NotFound);
+    }
+    let name = disk.info(place).name;
+    let before = world.calls;
+    if asked == "unread" {
+        world.failing = before.saturating_add(1);
+    }
+    let answer = answer_to(alloc, world, disk, asked, &name, more);
+    let calls = world.calls.saturating_sub(before);
+    let reads = calls.saturating_sub(syncs(world));
+    let is_whole = asked != "add"
+        || answer.is_err()
+        || has_both(alloc, world, disk, &name, old, more);
+    Ok(Done {
+        answer,
+        reads,
+        is_whole,
+    })
+}
+
+// The same of the files of two places.
 fn change(
     alloc: Global,
     world: &mut Disk,
@@ -229,25 +263,7 @@ fn change(
 ) -> Result<Done, DiskFault> {
     let old = file_at(alloc, world, disk, place)?;
     let more = file_at(alloc, world, disk, other)?;
-    if place >= disk.count() {
-        return Err(DiskFault::NotFound);
-    }
-    let name = disk.info(place).name;
-    let before = world.calls;
-    if asked == "unread" {
-        world.failing = before.saturating_add(1);
-    }
-    let answer = answer_to(alloc, world, disk, asked, &name, &more);
-    let calls = world.calls.saturating_sub(before);
-    let reads = calls.saturating_sub(syncs(world));
-    let is_whole = asked != "add"
-        || answer.is_err()
-        || has_both(alloc, world, disk, &name, &old, &more);
-    Ok(Done {
-        answer,
-        reads,
-        is_whole,
-    })
+    change_file(alloc, world, disk, asked, place, &old, &more)
 }
 
 // Adds the blocks from one to another; there are none where that is 0.
@@ -373,10 +389,9 @@ fn push_left<R: Abort>(into: &mut Report, rt: &R, alloc: Global, world: &Disk) {
 
 // So many bytes that stand at a place of a block.
 fn bytes_at<'a>(image: &'a [u8], text: &str) -> &'a [u8] {
-    let mut words = text.split(' ');
-    let block = number(words.next().unwrap_or("")) as usize;
-    let at = number(words.next().unwrap_or("")) as usize;
-    let count = number(words.next().unwrap_or("")) as usize;
+    let block = number(word_of(text, 0)) as usize;
+    let at = number(word_of(text, 1)) as usize;
+    let count = number(word_of(text, 2)) as usize;
     let start = block
         .saturating_sub(1)
         .saturating_mul(512)
@@ -418,10 +433,13 @@ fn tell_asked<R: Abort>(
     disk: &mut Minidisk,
     case: &str,
 ) {
-    let mut words = word(case, 3).split(' ');
-    let asked = words.next().unwrap_or("");
-    let place = number(words.next().unwrap_or(""));
-    let other = words.next().map_or(place, number);
+    let text = word(case, 3);
+    let asked = word_of(text, 0);
+    let place = number(word_of(text, 1));
+    let other = match word_of(text, 2) {
+        "" => place,
+        other => number(other),
+    };
     match change(alloc, world, disk, asked, place, other) {
         Ok(done) => push_done(into, rt, alloc, world, disk, &done, word(case, 4)),
         Err(fault) => into.value(&fault),

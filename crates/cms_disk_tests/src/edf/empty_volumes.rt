@@ -2,7 +2,7 @@
 use crate::edf::volumes::{TEST01, push_opened, push_state};
 use cms_cases::{Report, number, word};
 use cms_edf::{Doubt, Held, make, plan_make, wipe};
-use cms_images::{Made, NOON, calls_of, formatted, image_left, image_named, world_with};
+use cms_images::{Made, NOON, calls_of, formatted, image_left, image_named, world_with, zeros};
 use cms_journal::BlockSize;
 use cms_world::{Access, MemWorld, World};
 use std::alloc::Global;
@@ -199,7 +199,7 @@ fn tell_on_zeros<R: Abort>(
     size: BlockSize,
 ) {
     let count = (shape.bsize as usize).saturating_mul(shape.total as usize);
-    let image = vec![in alloc; 0; count].expect(rt, "memory");
+    let image = zeros(alloc, count).expect(rt, "memory");
     let mut world = world_with(alloc, &image, 0, false).expect(rt, "memory");
     push_made(into, alloc, &mut world, size);
     push_held(into, rt, alloc, shape, size, &world);
