@@ -13,7 +13,10 @@ pub const FILE: &[u8] = &[0xC6, 0xC9, 0xD3, 0xC5];
 
 /// The name of type FILE whose one character is the first of a text in ASCII, if it is a name.
 pub fn file_named(text: &str) -> Option<Name> {
-    let letter = from_host(*text.as_bytes().first()?)?;
+    let [character, ..] = text.as_bytes() else {
+        return None;
+    };
+    let letter = from_host(*character)?;
     match (Part::read(&[letter]), Part::read(FILE)) {
         (Ok(file), Ok(kind)) => Some(Name { file, kind }),
         _ => None,

@@ -47,7 +47,7 @@ enum Change {
 }
 
 // TEST01 with 9 blocks as it was formatted: the directory in block 4, the map in block 6, no files.
-static EMPTY: &[Change] = &[
+const EMPTY: &[Change] = &[
     Change::Label(4, 9, 6),
     Change::Entry(4, 0, Of::Directory, Row(4, 1, 2, 0, 0)),
     Change::Entry(4, 64, Of::Map, Row(6, 1, 1, 0, 0)),
@@ -55,7 +55,7 @@ static EMPTY: &[Change] = &[
 ];
 
 // Then A FILE is written, one record HELLO: its data in block 7, the new map in block 8, the new directory in block 5.
-static ONE_FILE: &[Change] = &[
+const ONE_FILE: &[Change] = &[
     Change::Hello(7, 7),
     Change::Bytes(8, 0, &[0xFB, 0x00]),
     Change::Entry(5, 0, Of::Directory, Row(5, 1, 3, 0, 2)),
@@ -65,7 +65,7 @@ static ONE_FILE: &[Change] = &[
 ];
 
 // Then A FILE is erased again: the map in block 6, the directory in block 4; blocks 5, 7 and 8 stay as they were.
-static ERASED: &[Change] = &[
+const ERASED: &[Change] = &[
     Change::Entry(4, 0, Of::Directory, Row(4, 1, 2, 0, 0)),
     Change::Entry(4, 64, Of::Map, Row(6, 1, 1, 0, 0)),
     Change::Bytes(6, 0, &[0xFC, 0x00]),
@@ -73,7 +73,7 @@ static ERASED: &[Change] = &[
 ];
 
 // Or B FILE is written behind A FILE: its data in block 6, the map in block 9, the directory in block 4.
-static TWO_FILES: &[Change] = &[
+const TWO_FILES: &[Change] = &[
     Change::Hello(6, 6),
     Change::Bytes(9, 0, &[0xFE, 0x80]),
     Change::Entry(4, 0, Of::Directory, Row(4, 1, 4, 0, 3)),
@@ -84,7 +84,7 @@ static TWO_FILES: &[Change] = &[
 ];
 
 // A volume of 12 blocks with V FILE, records of 509 and 3 bytes: data in blocks 7 and 8, the pointer block in block 9.
-static SPANNING: &[Change] = &[
+const SPANNING: &[Change] = &[
     Change::Label(4, 12, 9),
     Change::Entry(4, 0, Of::Directory, Row(4, 1, 3, 0, 0)),
     Change::Entry(4, 64, Of::Map, Row(6, 1, 1, 0, 0)),
@@ -98,7 +98,7 @@ static SPANNING: &[Change] = &[
 ];
 
 // The empty volume with A FILE in block 7, and blocks 8 and 9 marked but not met.
-static FULL: &[Change] = &[
+const FULL: &[Change] = &[
     Change::Entry(4, 0, Of::Directory, Row(4, 1, 3, 0, 0)),
     Change::Entry(4, 128, Of::File(0xC1, 5), Row(7, 1, 1, 0, 0)),
     Change::Bytes(6, 0, &[0xFF, 0x80]),
@@ -107,7 +107,7 @@ static FULL: &[Change] = &[
 ];
 
 // A volume of 16 blocks with the files A to G: the directory in blocks 4 and 8 below the pointer block 7, the data in blocks 9 to 15.
-static LONG_DIRECTORY: &[Change] = &[
+const LONG_DIRECTORY: &[Change] = &[
     Change::Label(4, 16, 15),
     Change::Entry(4, 0, Of::Directory, Row(7, 2, 9, 1, 0)),
     Change::Entry(4, 64, Of::Map, Row(6, 1, 1, 0, 0)),
@@ -124,13 +124,13 @@ static LONG_DIRECTORY: &[Change] = &[
 ];
 
 // It has 17 blocks, of which its label says.
-static ON_17: &[Change] = &[Change::Bytes(3, 31, &[17])];
+const ON_17: &[Change] = &[Change::Bytes(3, 31, &[17])];
 
 // It has 20 blocks, of which its label says.
-static ON_20: &[Change] = &[Change::Bytes(3, 31, &[20])];
+const ON_20: &[Change] = &[Change::Bytes(3, 31, &[20])];
 
 // The files A to P: the directory in blocks 4, 7 and 8 below the pointer block 9, the data in blocks 10 to 25.
-static SIXTEEN_FILES: &[Change] = &[
+const SIXTEEN_FILES: &[Change] = &[
     Change::Entry(4, 0, Of::Directory, Row(9, 3, 18, 1, 0)),
     Change::Entry(4, 64, Of::Map, Row(6, 1, 1, 0, 0)),
     Change::Entry(4, 128, Of::File(0xC1, 5), Row(10, 1, 1, 0, 0)),
@@ -155,13 +155,13 @@ static SIXTEEN_FILES: &[Change] = &[
 ];
 
 // Of them, the label of a volume of 27 blocks.
-static LABEL_27: &[Change] = &[Change::Label(4, 27, 25)];
+const LABEL_27: &[Change] = &[Change::Label(4, 27, 25)];
 
 // Of them, the label of a volume of 28 blocks.
-static LABEL_28: &[Change] = &[Change::Label(4, 28, 25)];
+const LABEL_28: &[Change] = &[Change::Label(4, 28, 25)];
 
 // A volume of 4,112 blocks with A FILE in block 9: the directory in block 4, the map in blocks 6 and 7 below the pointer block 8.
-static WIDE_MAP: &[Change] = &[
+const WIDE_MAP: &[Change] = &[
     Change::Label(4, 4112, 9),
     Change::Entry(4, 0, Of::Directory, Row(4, 1, 3, 0, 0)),
     Change::Entry(4, 64, Of::Map, Row(8, 2, 2, 1, 0)),
@@ -209,7 +209,7 @@ fn changes_of(table: Table) -> &'static [Change] {
 }
 
 // The volumes by their names: their blocks, and what was written.
-static VOLUMES: &[(&str, usize, &[Table])] = &[
+const VOLUMES: &[(&str, usize, &[Table])] = &[
     ("zeros", 9, &[]),
     ("empty", 9, &[Table::Empty]),
     ("one file", 9, &[Table::Empty, Table::OneFile]),
