@@ -1,6 +1,6 @@
 -- Files that are got, of the calls that are made.
 use Rattle.std.proofs.Common.{◌≡◌, ◌⊎◌, inl, inr, ◌∙◌, ℕ, ◌+◌, ◌≤◌, true, false, List, [], ◌∷◌, ◌++◌, length, take, slice_get, Option, Some, None, Result, Ok, Err, IfOk, OnOk, refl, ap, sym, subst, append_assoc}
-use Rattle.std.specs.Prelude.{option_map}
+use Rattle.std.specs.Prelude.{IsSome, option_map}
 use Rattle.std.specs.List.{list_any}
 use Rattle.std.specs.Str.{bytes_eq}
 use Rattle.std.proofs.lemmas.Option.{same_Some}
@@ -9,6 +9,7 @@ use Rattle.cms_names.specs.declared.name.Name.{Name}
 use Rattle.cms_model.specs.Minidisks.{Minidisk}
 use Rattle.cms_disk.specs.Disks.{Accessed}
 use Rattle.mini_forms.specs.declared.form.Form.{Form}
+use Rattle.mini_host.specs.Files as files
 use Rattle.mini_host.specs.Files.{Files, is_folder, is_taken}
 use Rattle.mini_host.specs.declared.content.HostFile.{HostFile}
 use Rattle.mini_words.specs.declared.request.Get.{Get}
@@ -20,7 +21,7 @@ use Rattle.mini_work.specs.ChosenFiles.{chosen, idle_status}
 use Rattle.mini_work.specs.CommandActs.{Act, Asked, Came, Continues, Cut, Denied, Did, Goes, Kept, Said, both, none, one}
 use Rattle.mini_work.specs.Gets.{HasNoFolder, Hosts, IsBarred, IsGetting, IsGotBy, IsGotEach, IsGotTo, IsHanded, IsJoined, IsTyped, OnHost, files_after, folder_of}
 use Rattle.mini_work.specs.HostTold.{Noted, SameFiles, files_in}
-use Rattle.mini_work.specs.HandedFiles.{GetsOne, Hands, PutsFront, shown_in}
+use Rattle.mini_work.specs.HandedFiles.{GetsOne, Hands, IsBegun, PutsFront, shown_in}
 use Rattle.mini_work.specs.Stands.{Stands}
 use Rattle.mini_work.specs.Commands.{names_of}
 use Rattle.mini_work.specs.declared.fault.Fault.{Fault}
@@ -35,6 +36,17 @@ use Rattle.mini_work.proofs.Worked.{names_told}
 use Rattle.mini_work.proofs.UnitStands.{came_said, came_still, cut_here, cut_typing}
 
 -- ---- a file
+
+-- what holds of each answer
+pub on_ok_said : {A P : Type 0} (r : Result A Fault) → P → OnOk r P
+on_ok_said (Ok x) p = p
+on_ok_said (Err why) p = tt
+
+-- a host file that is begun still is, when a note was said
+pub begun_noted : (old new : Option Files) → Noted old new → IsBegun old → IsBegun new
+begun_noted None new noted begun = λ f is. absurd (let e : None ≡ Some f = sym noted.1 ∙ is in cc e)
+begun_noted (Some h) new noted begun = λ f is.
+    subst (λ (g : Files). IsSome g.draft) (same_Some (files.noted noted.0 h) f (sym noted.1 ∙ is)) (begun h refl)
 
 pub gets_done : (way : Way) (old new : Told) (h k : Option Files) (text : Option (List ℕ)) → Hands way old new h k text (Ok true)
     → GetsOne way old new h k text (Ok status.Done)

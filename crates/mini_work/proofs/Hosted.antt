@@ -64,6 +64,12 @@ pub was_told : (old new : Option Files) (k : Files) → SameFiles old new → ne
 was_told None new k same is = absurd (let e : things_in (Some k) ≡ None = ap things_in (sym is) ∙ same in cc e)
 was_told (Some h) new k same is = (h, refl)
 
+-- a file that was opened is before its first byte
+pub opened_at : (old new : Option Files) (file : List ℕ) → new ≡ option_map (files.opened file) old → IsOpenAt new file
+opened_at None new file is = λ h at. absurd (let e : None ≡ Some h = sym is ∙ at in cc e)
+opened_at (Some f) new file is = λ h at.
+    subst (λ (g : Files). g.left ≡ content_of file g.files) (same_Some (files.opened file f) h (sym is ∙ at)) refl
+
 pub there_still : (old new : Option Files) (file : List ℕ) → SameFiles old new → IsThere old file → IsThere new file
 there_still old new file same there = λ k is.
     let h = was_told old new k same is in

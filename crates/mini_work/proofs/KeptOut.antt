@@ -144,17 +144,6 @@ got_on get path name old mid new d h k (Err why) gets told = λ start first m ac
     let kept = came_kept start first m acts mid d path g.0 (subst (λ (t : Told). Came start first acts t d m) (sym g.2) came) in
     told start first m (Kept path g.0 ∷ acts) kept
 
--- the same, once it was said
-pub got_done : (get : Get) (path : List ℕ) (name : Name) (old mid new : Told) (d : Accessed) (h k : Option Files) (s : Status)
-    → ((m : Minidisk) → Stands old d m → (bytes : List ℕ) × (shown_in get.form m name ≡ Some bytes) × (mid ≡ old)
-    × (files_in k ≡ option_map (files_after (Kept path bytes ∷ [])) (files_in h)))
-    → Continues (IsTold get.says (name_line name)) mid d new d (Ok s) → Continues (OnHost h k (IsGotAs get path name)) old d new d (Ok status.Done)
-got_done get path name old mid new d h k s gets told = λ start first m acts came.
-    let g = gets m came.stands in
-    let kept = came_kept start first m acts mid d path g.0 (subst (λ (t : Told). Came start first acts t d m) (sym g.2) came) in
-    let l = told start first m (Kept path g.0 ∷ acts) kept in
-    (l.0, l.1, ((g.0, g.1, l.2.1, l.2.2), hosts_kept h k path g.0 get.says (name_line name) acts l.1 l.2.2 g.3), l.3)
-
 -- nothing can be shown of it
 pub got_refused : (get : Get) (path : List ℕ) (name : Name) (old new : Told) (d : Accessed) (h a b l : Option Files) (s : Status)
     → ((m : Minidisk) → Stands old d m → GetsOne ways.File old new a b (shown_in get.form m name) (Ok s)) → (s ≡ status.Done → ⊥) → SameFiles h l
@@ -172,6 +161,12 @@ got_refused get path name old new d h a b l s gets other same = λ start first m
 pub refuses_err : (h : Option Files) (get : Get) (path : List ℕ) (text : Option (List ℕ)) (why : Fault) (r : Result Status Fault) → r ≡ Err why
     → RefusesFor h get path text r
 refuses_err h get path text why r is = subst (λ (x : Result Status Fault). RefusesFor h get path text x) (sym is) tt
+
+-- it wasn't refused
+pub refuses_never : (h : Option Files) (get : Get) (path : List ℕ) (text : Option (List ℕ)) (r : Result Status Fault) → IfOk r (λ s. s ≡ status.Done)
+    → RefusesFor h get path text r
+refuses_never h get path text (Ok s) is = subst (λ (x : Status). RefusesFor h get path text (Ok x)) (sym is) tt
+refuses_never h get path text (Err why) is = tt
 
 pub refuses_none : (h : Option Files) (get : Get) (path : List ℕ) (old new : Told) (a b : Option Files) (text : Option (List ℕ)) (s : Status)
     → GetsOne ways.File old new a b text (Ok s) → (s ≡ status.Done → ⊥) → RefusesFor h get path text (Ok s)

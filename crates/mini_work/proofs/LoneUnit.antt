@@ -1,5 +1,6 @@
 -- The only unit of a world, before anything happened to it.
-use Rattle.std.proofs.Common.{◌≡◌, ◌∙◌, inl, inr, ℕ, ◌-◌, false, List, [], ◌∷◌, length, min, None, Some, Result, Ok, Err, refl, ap, sym, subst, arith, All, slice_get}
+use Rattle.std.proofs.Common.{◌≡◌, ◌∙◌, inl, inr, ℕ, ◌-◌, false, List, [], ◌∷◌, length, min, Option, None, Some, Result, Ok, Err, IfOk, refl, ap, sym, subst, arith, All, slice_get}
+use Rattle.std.specs.Prelude.{IfSome}
 use Rattle.std.specs.Option.{ForSome}
 use Rattle.std.proofs.lemmas.Option.{same_Some}
 use Rattle.cms_journal.specs.declared.event.Access.{Access}
@@ -28,6 +29,7 @@ use Rattle.cms_disk.proofs.DisksTold.{state_stands}
 use Rattle.mini_work.specs.OpenedImages.{Attaches, IsAlone, IsNew, IsUnwritten, MayUse, Opens}
 use Rattle.mini_work.specs.CommandActs.{MayChange}
 use Rattle.mini_work.specs.Output.{OnlyTypes}
+use Rattle.mini_work.specs.declared.fault.Fault.{Fault}
 use Rattle.mini_work.proofs.UnitStands.{none_told}
 
 -- ---- the unit as it was attached
@@ -183,6 +185,15 @@ unwritten_types old new typed u = record {
 pub access_told : (e : AccessFault) (u : ℕ) (old new : Told) → new ≡ told_with e false u old → new ≡ old
 access_told Sync u old new is = is
 access_told (Open why) u old new is = is
+
+-- ---- what is said of what is found
+
+-- three things of it
+pub found_all : {P Q R S : Accessed → Type 0} (r : Result (Option Accessed) Fault) → ((d : Accessed) → P d → Q d → R d → S d)
+    → IfOk r (λ o. IfSome o P) → IfOk r (λ o. IfSome o Q) → IfOk r (λ o. IfSome o R) → IfOk r (λ o. IfSome o S)
+found_all (Ok (Some d)) all p q r = all d p q r
+found_all (Ok None) all p q r = tt
+found_all (Err why) all p q r = tt
 
 -- ---- what is opened may be used
 

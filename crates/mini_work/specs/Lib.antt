@@ -6,13 +6,16 @@ pub mod Changes
 pub mod Output
 pub mod ChosenFiles
 pub mod OpenedImages
+pub mod FoundDisks
 pub mod Listing
 pub mod Commands
 pub mod HandedFiles
+pub mod FileGets
 pub mod BlockSizes
 pub mod NewImages
 pub mod Checks
 pub mod Puts
+pub mod FilePuts
 pub mod Requests
 pub mod HostRecords
 pub mod Gets

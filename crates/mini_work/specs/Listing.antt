@@ -26,12 +26,15 @@ stamp_text s =
     two_digits (s.year / 100) ++ (two_digits s.year ++ 0x60 ∷ (two_digits s.month ++ 0x60 ∷ (two_digits s.day
     ++ 0x40 ∷ (two_digits s.hour ++ 0x7A ∷ (two_digits s.minute ++ 0x7A ∷ two_digits s.second)))))
 
--- name, format, record length, records, data blocks, date with time, and mode number
+-- format, record length, records, data blocks, date with time, and mode number
+abbrev pub more_columns : FileInfo → List (List ℕ)
+more_columns info =
+    left_in 1 (format_text info.format) ∷ right_in 5 (decimal_of info.length) ∷ right_in 7 (decimal_of info.count)
+    ∷ right_in 8 (decimal_of info.blocks) ∷ left_in 19 (stamp_text info.stamp) ∷ left_in 1 ((0xF0 + info.number % 10) ∷ []) ∷ []
+
+-- name, and those
 abbrev pub columns : FileInfo → List (List ℕ)
-columns info =
-    left_in 17 (name_text info.name) ∷ left_in 1 (format_text info.format) ∷ right_in 5 (decimal_of info.length)
-    ∷ right_in 7 (decimal_of info.count) ∷ right_in 8 (decimal_of info.blocks) ∷ left_in 19 (stamp_text info.stamp)
-    ∷ left_in 1 ((0xF0 + info.number % 10) ∷ []) ∷ []
+columns info = left_in 17 (name_text info.name) ∷ more_columns info
 
 -- the line of a file, long or its name alone
 abbrev pub file_line : Bool → FileInfo → List ℕ

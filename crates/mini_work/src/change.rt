@@ -46,7 +46,11 @@ pub(crate) fn erase<W: World, H: Host>(
         (counts W.World H.Host world.new host.new) result }
 {
     match open_disk(alloc, world, host, image, Access::ReadWrite)? {
-        Some(mut disk) => erase_fitting(alloc, world, host, &mut disk, says, offset, names),
+        Some(mut disk) => {
+            let done = erase_fitting(alloc, world, host, &mut disk, says, offset, names);
+            drop(disk);
+            done
+        }
         None => Ok(Status::Refused),
     }
 }
@@ -210,7 +214,11 @@ pub(crate) fn rename<W: World, H: Host>(
         (counts W.World H.Host world.new host.new) result }
 {
     match open_disk(alloc, world, host, image, Access::ReadWrite)? {
-        Some(mut disk) => rename_file(alloc, world, host, &mut disk, says, offset, from, to),
+        Some(mut disk) => {
+            let done = rename_file(alloc, world, host, &mut disk, says, offset, from, to);
+            drop(disk);
+            done
+        }
         None => Ok(Status::Refused),
     }
 }

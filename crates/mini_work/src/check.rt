@@ -30,7 +30,11 @@ pub(crate) fn check<W: World, H: Host>(
         (counts W.World H.Host world.new host.new) result }
 {
     match open_held(alloc, world, host, image)? {
-        Some(held) => say_sound(alloc, world, image.name.text(), &held),
+        Some(held) => {
+            let done = say_sound(alloc, world, image.name.text(), &held);
+            drop(held);
+            done
+        }
         None => Ok(Status::Refused),
     }
 }

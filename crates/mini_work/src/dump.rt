@@ -139,11 +139,44 @@ fn dump_volume<W: World, H: Host>(
     let Some(bytes) = find_block(alloc, world, host, image, unit, LABEL)? else {
         return Ok(Status::Refused);
     };
-    let text = label_lines(alloc, &bytes, unit)?;
-    type_bytes(world, text.as_bytes())?;
-    let origin = word_at(&bytes, 16);
+    show_label(alloc, world, unit, &bytes)?;
+    show_volume(alloc, world, unit, word_at(&bytes, 16))
+}
+
+// Shows what a label says.
+fn show_label<W: World>(
+    alloc: Global,
+    world: &mut W,
+    unit: &UnitInfo,
+    bytes: &[u8],
+) -> Result<(), Fault>
+    requires { 80 ≤ length bytes.now }
+    ensures goes { OnlyTypes (W.told world.old) (W.told world.new) }
+    ensures cause { (n : ℕ) → HasCause (on_world W.World world.old n)
+        (on_world W.World world.new n) result }
+{
+    let text = label_lines(alloc, bytes, unit)?;
+    type_bytes(world, text.as_bytes())
+}
+
+// Shows the entries of a volume, also of one that doesn't open.
+fn show_volume<W: World>(
+    alloc: Global,
+    world: &mut W,
+    unit: &UnitInfo,
+    origin: u32,
+) -> Result<Status, Fault>
+    requires { MayUse (W.told world.old) unit.now }
+    ensures goes { OnlyTypes (W.told world.old) (W.told world.new) }
+    ensures cause { (n : ℕ) → HasEnd (on_world W.World world.old n)
+        (on_world W.World world.new n) result }
+{
     match open_volume(alloc, world, &unit.unit, unit.bsize) {
-        Ok(held) => show_held(alloc, world, unit, origin, &held),
+        Ok(held) => {
+            let shown = show_held(alloc, world, unit, origin, &held);
+            drop(held);
+            shown
+        }
         Err(OpenFault::Device) => Err(Fault::Image),
         Err(OpenFault::Memory) => Err(Fault::Memory),
         Err(_) => show_directory(alloc, world, unit, origin, MOST_ENTRIES),
@@ -172,19 +205,33 @@ fn label_lines(alloc: Global, bytes: &[u8], unit: &UnitInfo) -> Result<String, A
     requires { 80 ≤ length bytes.now }
 {
     let mut text = String::new(alloc);
+    push_label(&mut text, bytes, unit)?;
+    Ok(text)
+}
+
+// The first test that a label fails, and what it says.
+fn push_label(text: &mut String, bytes: &[u8], unit: &UnitInfo) -> Result<(), AllocError>
+    requires { 80 ≤ length bytes.now }
+{
     if let Err(why) = read_label(bytes, unit.bsize, unit.unit.blocks) {
         writeln!(text, "label: {} is wrong", label_test(why))?;
     }
     text.push_str("identifier: ")?;
-    push_codes(&mut text, &bytes[..4])?;
+    push_codes(text, &bytes[..4])?;
     text.push_str("\nlabel: ")?;
-    push_codes(&mut text, &bytes[4..10])?;
+    push_codes(text, &bytes[4..10])?;
+    push_numbers(text, bytes)
+}
+
+// The numbers of a label.
+fn push_numbers(text: &mut String, bytes: &[u8]) -> Result<(), AllocError>
+    requires { 80 ≤ length bytes.now }
+{
     writeln!(text, "\nblock size: {}", word_at(bytes, 12))?;
     writeln!(text, "directory: block {}", word_at(bytes, 16))?;
     writeln!(text, "blocks: {}", word_at(bytes, 28))?;
     writeln!(text, "used: {}", word_at(bytes, 32))?;
-    writeln!(text, "entry size: {}", word_at(bytes, 36))?;
-    Ok(text)
+    writeln!(text, "entry size: {}", word_at(bytes, 36))
 }
 
 fn label_test(why: LabelFault) -> &'static str {

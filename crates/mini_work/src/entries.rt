@@ -3,7 +3,7 @@ ghost use Rattle.std.specs.Prelude.{◌≤◌, length};
 
 use crate::output::name_word;
 use cms_ebcdic::to_host;
-use cms_fields::{Entry, EntryFault, read_entry};
+use cms_fields::{Entry, EntryFault, Stamp, read_entry};
 use cms_journal::BlockSize;
 use cms_names::Format;
 use cms_text::bytes::word_at;
@@ -61,14 +61,21 @@ fn wrong_lines(
 {
     let test = entry_test(why);
     let mut text = format!(in alloc; "entry {place}: {test} is wrong: ")?;
-    push_codes(&mut text, &bytes[..8])?;
-    text.push('.')?;
-    push_codes(&mut text, &bytes[8..16])?;
-    text.push_str(" mode number ")?;
-    push_codes(&mut text, &bytes[25..26])?;
-    push_fields(&mut text, bytes)?;
-    push_bytes(&mut text, bytes)?;
+    push_entry(&mut text, bytes)?;
     Ok(text)
+}
+
+// The fields of an entry as they stand, and its bytes.
+fn push_entry(text: &mut String, bytes: &[u8]) -> Result<(), AllocError>
+    requires { 64 ≤ length bytes.now }
+{
+    push_codes(text, &bytes[..8])?;
+    text.push('.')?;
+    push_codes(text, &bytes[8..16])?;
+    text.push_str(" mode number ")?;
+    push_codes(text, &bytes[25..26])?;
+    push_fields(text, bytes)?;
+    push_bytes(text, bytes)
 }
 
 // The fields of an entry behind its name and number.
@@ -100,12 +107,23 @@ fn entry_test(why: EntryFault) -> &'static str {
 
 /// An entry's fields.
 pub(crate) fn entry_line(alloc: Global, place: usize, entry: &Entry) -> Result<String, AllocError> {
+    let mut line = name_line(alloc, place, entry)?;
+    push_facts(&mut line, entry)?;
+    Ok(line)
+}
+
+// The name of an entry and its mode number, behind its own number.
+fn name_line(alloc: Global, place: usize, entry: &Entry) -> Result<String, AllocError> {
     let name = name_word(alloc, &entry.name)?;
+    format!(in alloc; "entry {place}: {name} mode number {}", entry.number)
+}
+
+// The fields of an entry behind its mode number.
+fn push_facts(line: &mut String, entry: &Entry) -> Result<(), AllocError> {
     let format = match entry.format {
         Format::F => "F",
         Format::V => "V",
     };
-    let mut line = format!(in alloc; "entry {place}: {name} mode number {}", entry.number)?;
     write!(line, ", format {format}, record length {}", entry.length)?;
     write!(
         line,
@@ -113,7 +131,11 @@ pub(crate) fn entry_line(alloc: Global, place: usize, entry: &Entry) -> Result<S
         entry.count, entry.blocks
     )?;
     write!(line, ", levels {}, root {}", entry.levels, entry.root)?;
-    let stamp = &entry.stamp;
+    push_stamp(line, &entry.stamp)
+}
+
+// A date and its time, and the line's end.
+fn push_stamp(line: &mut String, stamp: &Stamp) -> Result<(), AllocError> {
     write!(
         line,
         ", {:04}-{:02}-{:02}",
@@ -123,8 +145,7 @@ pub(crate) fn entry_line(alloc: Global, place: usize, entry: &Entry) -> Result<S
         line,
         " {:02}:{:02}:{:02}",
         stamp.hour, stamp.minute, stamp.second
-    )?;
-    Ok(line)
+    )
 }
 
 /// Adds bytes in hexadecimal digits beside their characters, each line with its offset.

@@ -1,18 +1,18 @@
 // Files of an image are handed out.
-ghost use Rattle.std.specs.Prelude.{◌≡◌, ◌++◌, ◌∷◌, ℕ, [], List, Option, false, true, None, IsSome, IfOk, OnOk};
-ghost use Rattle.std.specs.Option.{ForSome, option_map};
+ghost use Rattle.std.specs.Prelude.{◌≡◌, ◌++◌, ◌∷◌, ℕ, [], List, Option, false, true, IfOk, OnOk};
 ghost use Rattle.std.specs.String.{string_bytes};
 ghost use Rattle.cms_journal.specs.declared.event.Access.TheVariants.{ReadOnly};
 ghost use Rattle.cms_journal.specs.Told.{Grown};
 ghost use Rattle.cms_model.specs.Minidisks as minidisks;
 ghost use Rattle.cms_disk.specs.Disks.{Accessed};
 ghost use Rattle.cms_names.specs.declared.name.Name as names;
-ghost use Rattle.mini_host.specs.Files.{Files, begun, is_folder, kept};
+ghost use Rattle.mini_host.specs.Files.{Files};
 ghost use Rattle.mini_work.specs.Gets as spec;
-ghost use Rattle.mini_work.specs.Gets.{Begins, HasNoFolder, IsBarred, IsGetting, IsGotBy, IsGotEach, IsGotTo, IsHanded, IsJoined, Keeps, OnHost, WritesAll};
+ghost use Rattle.mini_work.specs.Gets.{Begins, HasNoFolder, IsGetting, IsGotBy, IsGotEach, IsGotTo, IsHanded, IsJoined, Keeps, OnHost, WritesAll};
 ghost use Rattle.mini_work.specs.Causes.{Counts, HasCause, HasEnd, counts, on_host, on_world};
 ghost use Rattle.mini_work.specs.CommandActs.{Continues, Goes, MayChange, both};
-ghost use Rattle.mini_work.specs.HandedFiles.{GetsOne, IsBegun, IsInfoOf, shown_in};
+ghost use Rattle.mini_work.specs.FileGets.{GetsFile};
+ghost use Rattle.mini_work.specs.HandedFiles.{IsBegun, IsInfoOf, shown_in};
 ghost use Rattle.mini_work.specs.OpenedImages.{HasRoom, IsNew};
 ghost use Rattle.mini_work.specs.HostTold.{Noted, SameFiles};
 ghost use Rattle.mini_work.specs.Stands.{Stands};
@@ -54,7 +54,11 @@ pub(crate) fn get<W: World, H: Host>(
         (counts W.World H.Host world.new host.new) result }
 {
     match open_disk(alloc, world, host, &get.image, Access::ReadOnly)? {
-        Some(disk) => get_fitting(alloc, world, host, &disk, get),
+        Some(disk) => {
+            let done = get_fitting(alloc, world, host, &disk, get);
+            drop(disk);
+            done
+        }
         None => Ok(Status::Refused),
     }
 }
@@ -164,7 +168,34 @@ fn get_into<W: World, H: Host>(
         return Ok(Status::Refused);
     }
     let mut written = Series::new(alloc);
-    let status = write_all(alloc, world, host, disk, get.form, names, &mut written)?;
+    let got = get_begun(alloc, world, host, disk, get, file, names, &mut written);
+    drop(written);
+    got
+}
+
+// Hands out files, joined, into the host file that is begun, and gathers their names.
+fn get_begun<W: World, H: Host>(
+    alloc: Global,
+    world: &mut W,
+    host: &mut H,
+    disk: &Minidisk,
+    get: &Get,
+    file: &str,
+    names: &[Name],
+    written: &mut Series<Name>,
+) -> Result<Status, Fault>
+    requires may { MayChange (W.told world.old) disk.now }
+    requires begun { IsBegun (H.told host.old) }
+    requires none { written.old ≡ [] }
+    ensures goes { (first before : Option Files) → SameFiles first before
+        → Begins before (H.told host.old) get.now file.now true
+        → Continues (OnHost first (H.told host.new) (IsJoined first get.now file.now names.now))
+        (W.told world.old) disk.now (W.told world.new) disk.now result }
+    ensures cause { (m : minidisks.Minidisk) → Stands (W.told world.old) disk.now m
+        → HasEnd (counts W.World H.Host world.old host.old)
+        (counts W.World H.Host world.new host.new) result }
+{
+    let status = write_all(alloc, world, host, disk, get.form, names, written)?;
     if written.is_empty() {
         host.discard();
         return Ok(status);
@@ -276,29 +307,13 @@ fn begin_file<H: Host>(alloc: Global, host: &mut H, get: &Get, file: &str) -> Re
     ensures cause { (c : Counts) → HasCause (on_host c (H.faults host.old))
         (on_host c (H.faults host.new)) result }
 {
-    match begin(host, get, file)? {
-        Some(refusal) => bar(alloc, host, file, refusal),
-        None => Ok(true),
-    }
-}
-
-// Why a host file may not be begun, if for something; else it is.
-fn begin<H: Host>(host: &mut H, get: &Get, file: &str) -> Result<Option<Refusal>, Fault>
-    ensures begun { IfOk result (λ found. found ≡ None
-        → H.told host.new ≡ option_map (begun file.now get.now.replaces) (H.told host.old)) }
-    ensures barred { IfOk result (λ found. IsSome found
-        → IsBarred (H.told host.old) get.now file.now) }
-    ensures kept { IfOk result (λ found. IsSome found → H.told host.new ≡ H.told host.old) }
-    ensures cause { (c : Counts) → HasCause (on_host c (H.faults host.old))
-        (on_host c (H.faults host.new)) result }
-{
     let same = is_same(host, file, get.image.name.text())?;
     if same {
-        return Ok(Some(Refusal::IsImage));
+        return bar(alloc, host, file, Refusal::IsImage);
     }
     match host.begin(file, get.replaces) {
-        Ok(true) => Ok(None),
-        Ok(false) => Ok(Some(Refusal::IsThere)),
+        Ok(true) => Ok(true),
+        Ok(false) => bar(alloc, host, file, Refusal::IsThere),
         Err(_) => Err(Fault::Host),
     }
 }
@@ -321,22 +336,9 @@ fn keep_file<H: Host>(alloc: Global, host: &mut H, file: &str) -> Result<bool, F
     ensures cause { (c : Counts) → HasCause (on_host c (H.faults host.old))
         (on_host c (H.faults host.new)) result }
 {
-    let kept = keep(host)?;
-    if kept {
-        return Ok(true);
-    }
-    bar(alloc, host, file, Refusal::IsThere)
-}
-
-fn keep<H: Host>(host: &mut H) -> Result<bool, Fault>
-    requires { IsBegun (H.told host.old) }
-    ensures has_it { IfOk result (λ has_it. ForSome (H.told host.old) (λ f. has_it ≡ true)) }
-    ensures kept { IfOk result (λ has_it. H.told host.new ≡ option_map kept (H.told host.old)) }
-    ensures cause { (c : Counts) → HasCause (on_host c (H.faults host.old))
-        (on_host c (H.faults host.new)) result }
-{
     match host.keep() {
-        Ok(has_it) => Ok(has_it),
+        Ok(true) => Ok(true),
+        Ok(false) => bar(alloc, host, file, Refusal::IsThere),
         Err(_) => Err(Fault::Host),
     }
 }
@@ -422,22 +424,9 @@ fn find_folder<H: Host>(alloc: Global, host: &mut H, folder: &str) -> Result<boo
     ensures cause { (c : Counts) → HasCause (on_host c (H.faults host.old))
         (on_host c (H.faults host.new)) result }
 {
-    let there = has_folder(host, folder)?;
-    if there {
-        return Ok(true);
-    }
-    bar(alloc, host, folder, Refusal::NoFolder)
-}
-
-fn has_folder<H: Host>(host: &mut H, folder: &str) -> Result<bool, Fault>
-    ensures folder { IfOk result (λ there. ForSome (H.told host.old)
-        (λ f. there ≡ is_folder folder.now f)) }
-    ensures told { H.told host.new ≡ H.told host.old }
-    ensures cause { (c : Counts) → HasCause (on_host c (H.faults host.old))
-        (on_host c (H.faults host.new)) result }
-{
     match host.has_folder(folder) {
-        Ok(there) => Ok(there),
+        Ok(true) => Ok(true),
+        Ok(false) => bar(alloc, host, folder, Refusal::NoFolder),
         Err(_) => Err(Fault::Host),
     }
 }
@@ -448,10 +437,7 @@ fn path_of(alloc: Global, folder: &str, name: &Name) -> Result<String, AllocErro
 {
     let word = name_word(alloc, name)?;
     let last = word.as_str().to_ascii_lowercase(alloc)?;
-    let mut path = String::from_str(alloc, folder)?;
-    path.push('/')?;
-    path.push_str(last.as_str())?;
-    Ok(path)
+    format!(in alloc; "{folder}/{last}")
 }
 
 // Hands out a file into a host file of its own.
@@ -491,8 +477,7 @@ fn get_to<W: World, H: Host>(
     if !kept {
         return Ok(Status::Refused);
     }
-    say_name(alloc, world, name, get.says)?;
-    Ok(Status::Done)
+    say_name(alloc, world, name, get.says)
 }
 
 // Hands out a file; where the form can't show its records that is said, before its first byte.
@@ -507,15 +492,8 @@ fn get_one<W: World, H: Host>(
 ) -> Result<Status, Fault>
     requires may { MayChange (W.told world.old) disk.now }
     requires begun { way ≡ ways.File → IsBegun (H.told host.old) }
-    ensures gets { (m : minidisks.Minidisk) → Stands (W.told world.old) disk.now m
-        → GetsOne way (W.told world.old) (W.told world.new) (H.told host.old) (H.told host.new)
-        (shown_in form m name.now) result }
-    ensures grown { Grown (W.told world.old) (W.told world.new) }
-    ensures files { IfOk result (λ s. SameFiles (H.told host.old) (H.told host.new)) }
-    ensures begun { IfOk result (λ s. way ≡ ways.File → IsBegun (H.told host.new)) }
-    ensures cause { (m : minidisks.Minidisk) → Stands (W.told world.old) disk.now m
-        → HasEnd (counts W.World H.Host world.old host.old)
-        (counts W.World H.Host world.new host.new) result }
+    ensures { GetsFile W.World H.Host way form name.now disk.now world.old world.new
+        host.old host.new result }
 {
     match disk.find(name) {
         Some(place) => get_file(alloc, world, host, disk, form, way, name, &disk.info(place)),
@@ -537,15 +515,8 @@ fn get_file<W: World, H: Host>(
     requires may { MayChange (W.told world.old) disk.now }
     requires info { IsInfoOf name.now disk.now.volume info.now }
     requires begun { way ≡ ways.File → IsBegun (H.told host.old) }
-    ensures gets { (m : minidisks.Minidisk) → Stands (W.told world.old) disk.now m
-        → GetsOne way (W.told world.old) (W.told world.new) (H.told host.old) (H.told host.new)
-        (shown_in form m name.now) result }
-    ensures grown { Grown (W.told world.old) (W.told world.new) }
-    ensures files { IfOk result (λ s. SameFiles (H.told host.old) (H.told host.new)) }
-    ensures begun { IfOk result (λ s. way ≡ ways.File → IsBegun (H.told host.new)) }
-    ensures cause { (m : minidisks.Minidisk) → Stands (W.told world.old) disk.now m
-        → HasEnd (counts W.World H.Host world.old host.old)
-        (counts W.World H.Host world.new host.new) result }
+    ensures { GetsFile W.World H.Host way form name.now disk.now world.old world.new
+        host.old host.new result }
 {
     match hand_out(alloc, world, host, disk, form, way, name, info) {
         Ok(true) => Ok(Status::Done),

@@ -13,7 +13,8 @@ ghost use Rattle.cms_disk.specs.Disks.{IsReadable};
 ghost use Rattle.mini_forms.specs.Output.{is_line, written};
 ghost use Rattle.mini_work.specs.Causes.{HasCause, counts, on_world};
 ghost use Rattle.mini_work.specs.HandedFiles as spec;
-ghost use Rattle.mini_work.specs.HandedFiles.{Hands, IsBegun, IsInfoOf, Puts, shown_in};
+ghost use Rattle.mini_work.specs.FileGets.{HandsFile};
+ghost use Rattle.mini_work.specs.HandedFiles.{IsBegun, IsInfoOf, Puts};
 ghost use Rattle.mini_work.specs.HostTold.{SameFiles};
 ghost use Rattle.mini_work.specs.Stands.{Stands};
 ghost use Rattle.mini_work.specs.declared.handed_file.Way.TheVariants as ways;
@@ -50,23 +51,20 @@ pub(crate) fn hand_out<W: World, H: Host>(
     requires blocks { ForSome (W.told world.old) (λ j. IsReadable j disk.now) }
     requires info { IsInfoOf name.now disk.now.volume info.now }
     requires begun { way ≡ ways.File → IsBegun (H.told host.old) }
-    ensures hands { (m : minidisks.Minidisk) → Stands (W.told world.old) disk.now m
-        → Hands way (W.told world.old) (W.told world.new) (H.told host.old) (H.told host.new)
-        (shown_in form m name.now) result }
-    ensures grown { Grown (W.told world.old) (W.told world.new) }
-    ensures files { OnOk result (SameFiles (H.told host.old) (H.told host.new)) }
-    ensures begun { OnOk result (way ≡ ways.File → IsBegun (H.told host.new)) }
-    ensures cause { (m : minidisks.Minidisk) → Stands (W.told world.old) disk.now m
-        → HasCause (counts W.World H.Host world.old host.old)
-        (counts W.World H.Host world.new host.new) result }
+    ensures { HandsFile W.World H.Host way form name.now disk.now world.old world.new
+        host.old host.new result }
 {
     let can = can_show(alloc, world, disk, form, name)?;
     if !can {
         return Ok(false);
     }
     let mut cursor = disk.cursor(alloc, name)?;
-    hand_records(alloc, world, host, &mut cursor, form, info.format, way)?;
-    Ok(true)
+    let handed = hand_records(alloc, world, host, &mut cursor, form, info.format, way);
+    drop(cursor);
+    match handed {
+        Ok(()) => Ok(true),
+        Err(fault) => Err(fault),
+    }
 }
 
 // Whether a form can show the records of a file.
@@ -89,7 +87,9 @@ fn can_show<W: World>(
     match form {
         Form::Text => {
             let mut cursor = disk.cursor(alloc, name)?;
-            are_lines(world, &mut cursor)
+            let lines = are_lines(world, &mut cursor);
+            drop(cursor);
+            lines
         }
         Form::Binary | Form::Records => Ok(true),
     }

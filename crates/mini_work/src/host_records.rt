@@ -18,7 +18,7 @@ ghost use Rattle.mini_work.specs.Layouts.{sized};
 ghost use Rattle.mini_work.specs.HostRecords.{IsCounted, IsOpen, IsReadOn, Measures, MeasuresLast, MeasuresTo, PutsAll, PutsSo, PutsText};
 
 use crate::fault::Fault;
-use cms_copyfile::{Measure, put_copy};
+use cms_copyfile::{FileForm, Measure, put_copy};
 use cms_disk::{DiskFault, Draft};
 use cms_names::Format;
 use cms_world::World;
@@ -74,12 +74,22 @@ impl From<AllocError> for FileFault {
     }
 }
 
-fn format_of(layout: Layout) -> Format
-    ensures { result ≡ layouts.format_of layout }
+/// The format of the records that a layout gives, and their length at F.
+pub(crate) fn form_of(layout: Layout) -> FileForm
+    ensures format { result.format ≡ layouts.format_of layout }
+    ensures length { result.length ≡ layouts.size_of layout }
 {
     match layout {
-        Layout::Text(None) | Layout::Records(None) => Format::V,
-        Layout::Text(Some(_)) | Layout::Records(Some(_)) | Layout::Binary(_) => Format::F,
+        Layout::Text(Some(length)) | Layout::Binary(length) | Layout::Records(Some(length)) => {
+            FileForm {
+                format: Format::F,
+                length,
+            }
+        }
+        Layout::Text(None) | Layout::Records(None) => FileForm {
+            format: Format::V,
+            length: 0,
+        },
     }
 }
 
@@ -196,7 +206,7 @@ fn measure_open<H: Host>(
     ensures cause { (c : Counts) → HasFileCause (on_host c (H.faults host.old))
         (on_host c (H.faults host.new)) result }
 {
-    let format = format_of(layout);
+    let format = form_of(layout).format;
     let mut measure = Measure::new();
     'reads: loop {
         let count = read_more(host, buffer)?;

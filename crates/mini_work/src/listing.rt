@@ -1,9 +1,9 @@
 // Files of an image are listed, and what the image is.
-ghost use Rattle.std.specs.Prelude.{◌≡◌, ◌++◌, ℕ, map, IfOk};
+ghost use Rattle.std.specs.Prelude.{◌≡◌, ◌∷◌, ◌++◌, ℕ, map, IfOk, OnOk};
 ghost use Rattle.cms_journal.specs.declared.event.Access.TheVariants.{ReadOnly};
 ghost use Rattle.cms_edf.specs.FilesTold.{infos_in};
 ghost use Rattle.cms_model.specs.Acts.{typed_line};
-ghost use Rattle.cms_search.specs.Texts.{spaced};
+ghost use Rattle.cms_search.specs.Texts.{right_in, spaced};
 ghost use Rattle.cms_text.specs.Numbers.{decimal_of};
 ghost use Rattle.mini_work.specs.Causes.{HasEnd, counts, on_world};
 ghost use Rattle.mini_work.specs.Changes.{IsTold};
@@ -50,7 +50,11 @@ pub(crate) fn list<W: World, H: Host>(
         (counts W.World H.Host world.new host.new) result }
 {
     match open_disk(alloc, world, host, image, Access::ReadOnly)? {
-        Some(disk) => list_fitting(alloc, world, host, &disk, long, names),
+        Some(disk) => {
+            let done = list_fitting(alloc, world, host, &disk, long, names);
+            drop(disk);
+            done
+        }
         None => Ok(Status::Refused),
     }
 }
@@ -122,13 +126,34 @@ fn long_line(alloc: Global, info: &FileInfo) -> Result<Vec<u8>, AllocError>
     ensures { IfOk result (λ line. line.items ≡ spaced (spec.columns info.now)) }
 {
     let mut line = first_column(alloc, 17, &name_text(alloc, &info.name)?)?;
-    add_left(alloc, &mut line, 1, &format_text(info.format))?;
-    add_right(alloc, &mut line, 5, decimal(alloc, info.length)?.bytes())?;
-    add_right(alloc, &mut line, 7, decimal(alloc, info.count)?.bytes())?;
-    add_right(alloc, &mut line, 8, decimal(alloc, info.blocks)?.bytes())?;
-    add_left(alloc, &mut line, 19, &stamp_text(&info.stamp))?;
-    add_left(alloc, &mut line, 1, &[ones(u16::from(info.number))])?;
+    add_columns(alloc, &mut line, info)?;
     Ok(line)
+}
+
+// Adds the columns behind a file's name.
+fn add_columns(alloc: Global, line: &mut Vec<u8>, info: &FileInfo) -> Result<(), AllocError>
+    ensures { OnOk result (line.new.items
+        ≡ line.old.items ++ 0x40 ∷ spaced (spec.more_columns info.now)) }
+{
+    add_left(alloc, line, 1, &format_text(info.format))?;
+    add_number(alloc, line, 5, info.length)?;
+    add_number(alloc, line, 7, info.count)?;
+    add_number(alloc, line, 8, info.blocks)?;
+    add_left(alloc, line, 19, &stamp_text(&info.stamp))?;
+    add_left(alloc, line, 1, &[ones(u16::from(info.number))])
+}
+
+// Adds a number to a line, at the right of a column.
+fn add_number(
+    alloc: Global,
+    line: &mut Vec<u8>,
+    width: usize,
+    number: u32,
+) -> Result<(), AllocError>
+    ensures { OnOk result (line.new.items
+        ≡ line.old.items ++ 0x40 ∷ right_in width (decimal_of number)) }
+{
+    add_right(alloc, line, width, decimal(alloc, number)?.bytes())
 }
 
 fn format_text(format: Format) -> [u8; 1]
@@ -186,7 +211,11 @@ pub(crate) fn info<W: World, H: Host>(
         (counts W.World H.Host world.new host.new) result }
 {
     match open_held(alloc, world, host, image)? {
-        Some(held) => say_facts(alloc, world, &held),
+        Some(held) => {
+            let done = say_facts(alloc, world, &held);
+            drop(held);
+            done
+        }
         None => Ok(Status::Refused),
     }
 }

@@ -77,6 +77,6 @@ fn make_volume<W: World>(
         (on_world W.World world.new n) result }
 {
     let stamp = ask_clock(world, offset)?;
-    let _disk = Minidisk::make(alloc, world, unit, label, &stamp)?;
+    drop(Minidisk::make(alloc, world, unit, label, &stamp)?);
     Ok(())
 }

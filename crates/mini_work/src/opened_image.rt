@@ -8,6 +8,7 @@ ghost use Rattle.cms_journal.specs.declared.event.Access.TheVariants.{ReadOnly};
 ghost use Rattle.mini_work.specs.Causes.{AreLater, Counts, HasCause, OneRose, counts, on_world};
 ghost use Rattle.mini_work.specs.Checks.{Holds, IsShut, is_test};
 ghost use Rattle.mini_work.specs.CommandActs.{MayChange};
+ghost use Rattle.mini_work.specs.FoundDisks.{FindsDisk};
 ghost use Rattle.mini_work.specs.OpenedImages.{Attaches, HasRoom, IsNew, IsUnwritten, MayUse, Opens};
 ghost use Rattle.mini_work.specs.HostTold.{SameFiles};
 
@@ -82,15 +83,8 @@ pub(crate) fn open_disk<W: World, H: Host>(
     access: Access,
 ) -> Result<Option<Minidisk>, Fault>
     requires room { HasRoom (W.told world.old) }
-    ensures opens { IfOk result (λ found. IfSome found (λ disk. IsNew (W.told world.old)
-        → (size : ℕ) × Opens image.now.name size access (W.told world.new) disk)) }
-    ensures unwritten { IsNew (W.told world.old) → IsUnwritten (W.told world.new) }
-    ensures may { IfOk result (λ found. IfSome found (MayChange (W.told world.new))) }
-    ensures files { SameFiles (H.told host.old) (H.told host.new) }
-    ensures writable { IfOk result (λ found. IfSome found
-        (λ disk. disk.writable ≡ may_write access)) }
-    ensures cause { HasCause (counts W.World H.Host world.old host.old)
-        (counts W.World H.Host world.new host.new) result }
+    ensures { FindsDisk W.World H.Host image.now.name access world.old world.new
+        host.old host.new result }
 {
     match find_size(alloc, host, image)? {
         Some(size) => open_sized(alloc, world, host, image.name.text(), size, access),
@@ -108,15 +102,8 @@ fn open_sized<W: World, H: Host>(
     access: Access,
 ) -> Result<Option<Minidisk>, Fault>
     requires room { HasRoom (W.told world.old) }
-    ensures opens { IfOk result (λ found. IfSome found (λ disk. IsNew (W.told world.old)
-        → (size : ℕ) × Opens image.now size access (W.told world.new) disk)) }
-    ensures unwritten { IsNew (W.told world.old) → IsUnwritten (W.told world.new) }
-    ensures may { IfOk result (λ found. IfSome found (MayChange (W.told world.new))) }
-    ensures files { SameFiles (H.told host.old) (H.told host.new) }
-    ensures writable { IfOk result (λ found. IfSome found
-        (λ disk. disk.writable ≡ may_write access)) }
-    ensures cause { HasCause (counts W.World H.Host world.old host.old)
-        (counts W.World H.Host world.new host.new) result }
+    ensures { FindsDisk W.World H.Host image.now access world.old world.new
+        host.old host.new result }
 {
     let unit = attach(world, image, size, access)?;
     open_unit(alloc, world, host, image, &unit)

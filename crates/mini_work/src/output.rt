@@ -108,6 +108,7 @@ pub(crate) fn say_if<W: World>(world: &mut W, line: &[u8], says: bool) -> Result
     ensures goes { (d : Accessed)
         → Continues (IsTold says (typed_line line.now)) (W.told world.old) d
         (W.told world.new) d result }
+    ensures done { IfOk result (λ s. s ≡ status.Done) }
     ensures grown { Grown (W.told world.old) (W.told world.new) }
     ensures cause { (n : ℕ) → HasEnd (on_world W.World world.old n)
         (on_world W.World world.new n) result }
@@ -128,6 +129,7 @@ pub(crate) fn say_name<W: World>(
     ensures goes { (d : Accessed)
         → Continues (IsTold says (spec.name_line name.now)) (W.told world.old) d
         (W.told world.new) d result }
+    ensures done { IfOk result (λ s. s ≡ status.Done) }
     ensures grown { Grown (W.told world.old) (W.told world.new) }
     ensures cause { (n : ℕ) → HasEnd (on_world W.World world.old n)
         (on_world W.World world.new n) result }

@@ -1,5 +1,5 @@
 // Host files are put into an image.
-ghost use Rattle.std.specs.Prelude.{◌≡◌, ◌≤◌, ℕ, List, [], true, false, None, Some, Ok, IsSome, IfOk};
+ghost use Rattle.std.specs.Prelude.{◌≡◌, ◌≤◌, ℕ, List, [], true, false, None, Some, Ok, IfOk};
 ghost use Rattle.std.specs.Option.{ForSome};
 ghost use Rattle.cms_journal.specs.Told.{Grown, Told};
 ghost use Rattle.cms_journal.specs.declared.event.Access.TheVariants.{ReadWrite};
@@ -22,13 +22,14 @@ ghost use Rattle.mini_host.specs.Files.{Files};
 ghost use Rattle.mini_host.specs.declared.content.HostFile as hosts;
 ghost use Rattle.mini_work.specs.Causes.{Counts, HasCause, HasEnd, counts, on_host};
 ghost use Rattle.mini_work.specs.Changes.{IsChange};
-ghost use Rattle.mini_work.specs.Drafts.{Begins, FillsSo, IsMeasuredFor, IsOpenAt, IsShapeOf, IsThere};
+ghost use Rattle.mini_work.specs.Drafts.{Begins, FillsSo, IsMeasuredFor, IsShapeOf, IsThere};
 ghost use Rattle.mini_work.specs.CommandActs.{Continues, Goes, MayChange};
 ghost use Rattle.mini_work.specs.OpenedImages.{HasRoom, IsNew};
 ghost use Rattle.mini_work.specs.Layouts as layouts;
 ghost use Rattle.mini_work.specs.Puts as spec;
 ghost use Rattle.mini_work.specs.HostTold.{SameFiles, files_in};
-ghost use Rattle.mini_work.specs.Puts.{IsNoFileFor, IsPut, IsPutting};
+ghost use Rattle.mini_work.specs.FilePuts.{FindsRefusal, IsReady, PutsFile};
+ghost use Rattle.mini_work.specs.Puts.{IsPut, IsPutting};
 ghost use Rattle.mini_work.specs.HostRecords.{IsOpen};
 ghost use Rattle.mini_work.specs.Output.{name_line};
 ghost use Rattle.mini_work.specs.Stands.{Stands};
@@ -38,14 +39,14 @@ use crate::block_size::{is_same, open_file};
 use crate::change::refuse_change;
 use crate::clock::ask_clock;
 use crate::fault::Fault;
-use crate::host_records::{FileFault, measure_file, put_records};
+use crate::host_records::{FileFault, form_of, measure_file, put_records};
 use crate::opened_image::open_disk;
 use crate::output::{refuse, say_fault, say_name};
 use crate::status::Status;
-use cms_copyfile::{FileForm, Measure, shape_of};
+use cms_copyfile::{Measure, shape_of};
 use cms_disk::{Draft, DraftShape, Minidisk};
 use cms_fields::Stamp;
-use cms_names::{Format, Name};
+use cms_names::Name;
 use cms_world::{Access, ImageName, World};
 use mini_forms::{Layout, Reader};
 use mini_host::{Host, Refusal};
@@ -71,7 +72,11 @@ pub(crate) fn put<W: World, H: Host>(
         (counts W.World H.Host world.new host.new) result }
 {
     match open_disk(alloc, world, host, &put.image, Access::ReadWrite)? {
-        Some(mut disk) => put_timed(alloc, world, host, &mut disk, put),
+        Some(mut disk) => {
+            let done = put_timed(alloc, world, host, &mut disk, put);
+            drop(disk);
+            done
+        }
         None => Ok(Status::Refused),
     }
 }
@@ -144,15 +149,8 @@ fn put_one<W: World, H: Host>(
     requires number { put.now.number ≤ 6 }
     requires size { IsSize (size_in (start_of put.now.layout)) }
     requires may { MayChange (W.told world.old) disk.old }
-    ensures goes { (files : List hosts.HostFile) → files_in (H.told host.old) ≡ Some files
-        → Continues (IsPut files put.now stamp.now file.now) (W.told world.old) disk.old
-        (W.told world.new) disk.new result }
-    ensures may { MayChange (W.told world.new) disk.new }
-    ensures files { SameFiles (H.told host.old) (H.told host.new) }
-    ensures writable { disk.new.writable ≡ disk.old.writable }
-    ensures cause { disk.old.writable ≡ true
-        → HasEnd (counts W.World H.Host world.old host.old)
-        (counts W.World H.Host world.new host.new) result }
+    ensures { PutsFile W.World H.Host put.now stamp.now file.now world.old world.new
+        host.old host.new disk.old disk.new result }
 {
     match name_for(put, file) {
         Some(name) => put_as(alloc, world, host, disk, put, file, &name, stamp),
@@ -176,15 +174,8 @@ fn put_as<W: World, H: Host>(
     requires size { IsSize (size_in (start_of put.now.layout)) }
     requires may { MayChange (W.told world.old) disk.old }
     requires named { spec.name_for put.now.name file.now ≡ Some name.now }
-    ensures goes { (files : List hosts.HostFile) → files_in (H.told host.old) ≡ Some files
-        → Continues (IsPut files put.now stamp.now file.now) (W.told world.old) disk.old
-        (W.told world.new) disk.new result }
-    ensures may { MayChange (W.told world.new) disk.new }
-    ensures files { SameFiles (H.told host.old) (H.told host.new) }
-    ensures writable { disk.new.writable ≡ disk.old.writable }
-    ensures cause { disk.old.writable ≡ true
-        → HasEnd (counts W.World H.Host world.old host.old)
-        (counts W.World H.Host world.new host.new) result }
+    ensures { PutsFile W.World H.Host put.now stamp.now file.now world.old world.new
+        host.old host.new disk.old disk.new result }
 {
     match find_refusal(host, disk, put, file, name)? {
         Some(refusal) => refuse(alloc, host, file, refusal),
@@ -209,17 +200,9 @@ fn put_named<W: World, H: Host>(
     requires may { MayChange (W.told world.old) disk.old }
     requires named { spec.name_for put.now.name file.now ≡ Some name.now }
     requires over { put.now.replaces ≡ false → place_of name.now disk.old.volume ≡ None }
-    requires opened { IsOpen (H.told host.old) }
-    requires content { IsOpenAt (H.told host.old) file.now }
-    ensures goes { (files : List hosts.HostFile) → files_in (H.told host.old) ≡ Some files
-        → Continues (IsPut files put.now stamp.now file.now) (W.told world.old) disk.old
-        (W.told world.new) disk.new result }
-    ensures may { MayChange (W.told world.new) disk.new }
-    ensures files { SameFiles (H.told host.old) (H.told host.new) }
-    ensures writable { disk.new.writable ≡ disk.old.writable }
-    ensures cause { disk.old.writable ≡ true
-        → HasEnd (counts W.World H.Host world.old host.old)
-        (counts W.World H.Host world.new host.new) result }
+    requires ready { IsReady file.now (H.told host.old) }
+    ensures { PutsFile W.World H.Host put.now stamp.now file.now world.old world.new
+        host.old host.new disk.old disk.new result }
 {
     match measure_file(alloc, host, put.layout) {
         Ok(measure) => put_measured(alloc, world, host, disk, put, file, name, stamp, &measure),
@@ -258,12 +241,8 @@ fn find_refusal<H: Host>(
     name: &Name,
 ) -> Result<Option<Refusal>, Fault>
     requires { spec.name_for put.now.name file.now ≡ Some name.now }
-    ensures refused { IfOk result (λ found. IsSome found → (files : List hosts.HostFile)
-        → files_in (H.told host.old) ≡ Some files
-        → (told : Told) (m : minidisks.Minidisk) → Stands told disk.now m
-        → IsNoFileFor files put.now file.now m) }
-    ensures opened { IfOk result (λ found. found ≡ None → IsOpen (H.told host.new)) }
-    ensures content { IfOk result (λ found. found ≡ None → IsOpenAt (H.told host.new) file.now) }
+    ensures finds { IfOk result (FindsRefusal put.now file.now disk.now
+        (H.told host.old) (H.told host.new)) }
     ensures over { IfOk result (λ found. found ≡ None → put.now.replaces ≡ false
         → place_of name.now disk.now.volume ≡ None) }
     ensures files { SameFiles (H.told host.old) (H.told host.new) }
@@ -282,25 +261,6 @@ fn find_refusal<H: Host>(
         return Ok(Some(Refusal::NotThere));
     }
     Ok(None)
-}
-
-// The format of the records that a layout gives, and their length at F.
-fn form_of(layout: Layout) -> FileForm
-    ensures format { result.format ≡ layouts.format_of layout }
-    ensures length { result.length ≡ layouts.size_of layout }
-{
-    match layout {
-        Layout::Text(Some(length)) | Layout::Binary(length) | Layout::Records(Some(length)) => {
-            FileForm {
-                format: Format::F,
-                length,
-            }
-        }
-        Layout::Text(None) | Layout::Records(None) => FileForm {
-            format: Format::V,
-            length: 0,
-        },
-    }
 }
 
 // The mode number of the file of a name, or the one that is given where none has it.
@@ -359,15 +319,8 @@ fn put_measured<W: World, H: Host>(
     requires over { put.now.replaces ≡ false → place_of name.now disk.old.volume ≡ None }
     requires there { IsThere (H.told host.old) file.now }
     requires measured { IsMeasuredFor (H.told host.old) file.now put.now.layout measure.now }
-    ensures goes { (files : List hosts.HostFile) → files_in (H.told host.old) ≡ Some files
-        → Continues (IsPut files put.now stamp.now file.now) (W.told world.old) disk.old
-        (W.told world.new) disk.new result }
-    ensures may { MayChange (W.told world.new) disk.new }
-    ensures files { SameFiles (H.told host.old) (H.told host.new) }
-    ensures writable { disk.new.writable ≡ disk.old.writable }
-    ensures cause { disk.old.writable ≡ true
-        → HasEnd (counts W.World H.Host world.old host.old)
-        (counts W.World H.Host world.new host.new) result }
+    ensures { PutsFile W.World H.Host put.now stamp.now file.now world.old world.new
+        host.old host.new disk.old disk.new result }
 {
     let there = open_file(host, file)?;
     if !there {
@@ -410,8 +363,15 @@ fn put_draft<W: World, H: Host>(
     ensures cause { HasEnd (counts W.World H.Host world.old host.old)
         (counts W.World H.Host world.new host.new) result }
 {
-    let full = fill(alloc, world, host, put.layout, &mut draft)?;
+    let full = match fill(alloc, world, host, put.layout, &mut draft) {
+        Ok(full) => full,
+        Err(fault) => {
+            drop(draft);
+            return Err(fault);
+        }
+    };
     if !full {
+        drop(draft);
         return refuse(alloc, host, file, Refusal::Changed);
     }
     disk.commit(world, draft)?;

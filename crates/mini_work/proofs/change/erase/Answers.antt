@@ -1,19 +1,19 @@
 use Rattle.mini_work.proofs.Caused.{end_fails, end_refused, end_then, later_same}
-use Rattle.std.proofs.Common.{ℕ, FitsSigned, Option, rules, subst, w32, ℤ, true, ◌≡◌}
+use Rattle.std.proofs.Common.{FitsSigned, Option, rules, subst, w32, ℤ}
 use Rattle.std.proofs.lemmas.Int.{to_z-of_z}
 use Rattle.std.specs.Prelude.{IfSome}
 use Rattle.std.proofs.lemmas.Result.{err_from_is_err_and}
 use Rattle.cms_journal.specs.declared.event.Access.TheVariants.{ReadWrite}
 use Rattle.cms_disk.specs.Disks.{Accessed}
-use Rattle.mini_work.specs.CommandActs.{Continues, MayChange}
+use Rattle.mini_work.specs.CommandActs.{Continues}
 use Rattle.mini_work.specs.Commands.{IsErasing}
-use Rattle.mini_work.specs.OpenedImages.{IsNew, Opens}
+use Rattle.mini_work.specs.FoundDisks.{IsFound}
 use Rattle.mini_work.proofs.Worked.{shut_err, shut_none, worked_open}
 use Rattle.mini_work.proofs.change.erase.Goals as goal
 
-pub erase_fitting-requires-clause-may : goal.erase_fitting-requires-clause-may
-erase_fitting-requires-clause-may g c =
-    subst (λ (o : Option Accessed). IfSome o (MayChange (g.W.World.told c.open_disk.new.world))) c.in-Some.is c.in_ok-disk.ensures.may
+pub erase_fitting-done-requires-clause-may : goal.erase_fitting-done-requires-clause-may
+erase_fitting-done-requires-clause-may g c =
+    (subst (λ (o : Option Accessed). IfSome o (IsFound c.args.image.now.name ReadWrite (g.W.World.told c.args.world.now) (g.W.World.told c.open_disk.new.world))) c.in-Some.is c.in_ok-disk.ensures.found).may
 
 pub returns-in_err-disk-clause-goes : goal.returns-in_err-disk-clause-goes
 returns-in_err-disk-clause-goes g c = λ is.
@@ -24,14 +24,14 @@ pub returns-in-Some-clause-goes : goal.returns-in-Some-clause-goes
 returns-in-Some-clause-goes g c = λ is.
     let told = g.W.World.told in
     let name = c.args.image.now.name in
-    let opens = subst (λ (o : Option Accessed). IfSome o (λ d. IsNew (told c.args.world.now)
-    → (size : ℕ) × Opens name size ReadWrite (told c.open_disk.new.world) d)) c.in-Some.is c.in_ok-disk.ensures.opens in
+    let found = subst (λ (o : Option Accessed). IfSome o (IsFound name ReadWrite (told c.args.world.now) (told c.open_disk.new.world))) c.in-Some.is
+    c.in_ok-disk.ensures.found in
     let small : FitsSigned w32 c.args.offset = search rules in
     let o = to_z-of_z w32 c.args.offset small in
-    let goes = subst (λ (x : ℤ). Continues (IsErasing c.args.says x c.args.names.now) (told c.open_disk.new.world) c.in-Some.disk (told c.erase_fitting.new.world)
-    c.erase_fitting.new.disk c.erase_fitting.result) o c.erase_fitting.ensures.goes in
-    worked_open name ReadWrite (IsErasing c.args.says c.args.offset c.args.names.now) (told c.open_disk.new.world) (told c.erase_fitting.new.world)
-    c.in-Some.disk c.erase_fitting.new.disk c.erase_fitting.result (opens is) goes
+    let goes = subst (λ (x : ℤ). Continues (IsErasing c.args.says x c.args.names.now) (told c.open_disk.new.world) c.in-Some.disk (told c.erase_fitting-done.new.world)
+    c.erase_fitting-done.new.disk c.erase_fitting-done.result) o c.erase_fitting-done.ensures.goes in
+    worked_open name ReadWrite (IsErasing c.args.says c.args.offset c.args.names.now) (told c.open_disk.new.world) (told c.erase_fitting-done.new.world)
+    c.in-Some.disk c.erase_fitting-done.new.disk c.erase_fitting-done.result (found.opens is) goes
 
 pub returns-in-None-clause-goes : goal.returns-in-None-clause-goes
 returns-in-None-clause-goes g c = λ is.
@@ -41,7 +41,7 @@ pub returns-in_err-disk-clause-cause : goal.returns-in_err-disk-clause-cause
 returns-in_err-disk-clause-cause g c = let x = c.in_err-disk.ensures.cause in end_fails _ _ _ c.in_err-disk.field-0.0 c.from_residual.result (later_same _) c.from_residual.ensures.1 x.later x.failed
 
 pub returns-in-Some-clause-cause : goal.returns-in-Some-clause-cause
-returns-in-Some-clause-cause g c = end_then _ _ _ _ (c.in_ok-disk.ensures.cause).later (c.erase_fitting.ensures.cause (subst (λ (o : Option Accessed). IfSome o (λ d. d.writable ≡ true)) c.in-Some.is c.in_ok-disk.ensures.writable))
+returns-in-Some-clause-cause g c = end_then _ _ _ _ (c.in_ok-disk.ensures.cause).later (c.erase_fitting-done.ensures.cause (subst (λ (o : Option Accessed). IfSome o (IsFound c.args.image.now.name ReadWrite (g.W.World.told c.args.world.now) (g.W.World.told c.open_disk.new.world))) c.in-Some.is c.in_ok-disk.ensures.found).writable)
 
 pub returns-in-None-clause-cause : goal.returns-in-None-clause-cause
 returns-in-None-clause-cause g c = end_refused _ _ (c.in_ok-disk.ensures.cause).later

@@ -1,19 +1,18 @@
 use Rattle.mini_work.proofs.Caused.{end_fails, end_refused, end_then, later_same}
-use Rattle.std.proofs.Common.{ℕ, Option, subst}
+use Rattle.std.proofs.Common.{Option, subst}
 use Rattle.std.specs.Prelude.{IfSome}
 use Rattle.std.proofs.lemmas.Result.{err_from_is_err_and}
 use Rattle.cms_journal.specs.declared.event.Access.TheVariants.{ReadOnly}
 use Rattle.cms_disk.specs.Disks.{Accessed}
-use Rattle.mini_work.specs.CommandActs.{MayChange}
 use Rattle.mini_work.specs.Gets.{IsGetting, OnHost}
-use Rattle.mini_work.specs.OpenedImages.{IsNew, Opens}
+use Rattle.mini_work.specs.FoundDisks.{IsFound}
 use Rattle.mini_work.proofs.GotOut.{getting_from}
 use Rattle.mini_work.proofs.Worked.{shut_err, shut_none, worked_open}
 use Rattle.mini_work.proofs.get.get.Goals as goal
 
-pub get_fitting-requires : goal.get_fitting-requires
-get_fitting-requires g c =
-    subst (λ (o : Option Accessed). IfSome o (MayChange (g.W.World.told c.open_disk.new.world))) c.in-Some.is c.in_ok-disk.ensures.may
+pub get_fitting-done-requires : goal.get_fitting-done-requires
+get_fitting-done-requires g c =
+    (subst (λ (o : Option Accessed). IfSome o (IsFound c.args.get.now.image.name ReadOnly (g.W.World.told c.args.world.now) (g.W.World.told c.open_disk.new.world))) c.in-Some.is c.in_ok-disk.ensures.found).may
 
 pub returns-in_err-disk-clause-goes : goal.returns-in_err-disk-clause-goes
 returns-in_err-disk-clause-goes g c = λ is.
@@ -28,12 +27,12 @@ returns-in-Some-clause-goes g c = λ is.
     let get = c.args.get.now in
     let name = get.image.name in
     let d = c.in-Some.disk in
-    let opens = subst (λ (o : Option Accessed). IfSome o (λ d. IsNew (told c.args.world.now)
-    → (size : ℕ) × Opens name size ReadOnly (told c.open_disk.new.world) d)) c.in-Some.is c.in_ok-disk.ensures.opens in
-    worked_open name ReadOnly (OnHost (host c.args.host.now) (host c.get_fitting.new.host) (IsGetting (host c.args.host.now) get))
-    (told c.open_disk.new.world) (told c.get_fitting.new.world) d d c.get_fitting.result (opens is)
-    (getting_from (host c.args.host.now) (host c.open_disk.new.host) (host c.get_fitting.new.host) get (told c.open_disk.new.world)
-    (told c.get_fitting.new.world) d c.get_fitting.result c.in_ok-disk.ensures.files c.get_fitting.ensures.goes)
+    let found = subst (λ (o : Option Accessed). IfSome o (IsFound name ReadOnly (told c.args.world.now) (told c.open_disk.new.world))) c.in-Some.is
+    c.in_ok-disk.ensures.found in
+    worked_open name ReadOnly (OnHost (host c.args.host.now) (host c.get_fitting-done.new.host) (IsGetting (host c.args.host.now) get))
+    (told c.open_disk.new.world) (told c.get_fitting-done.new.world) d d c.get_fitting-done.result (found.opens is)
+    (getting_from (host c.args.host.now) (host c.open_disk.new.host) (host c.get_fitting-done.new.host) get (told c.open_disk.new.world)
+    (told c.get_fitting-done.new.world) d c.get_fitting-done.result c.in_ok-disk.ensures.files c.get_fitting-done.ensures.goes)
 
 pub returns-in-None-clause-goes : goal.returns-in-None-clause-goes
 returns-in-None-clause-goes g c = λ is.
@@ -43,7 +42,7 @@ pub returns-in_err-disk-clause-cause : goal.returns-in_err-disk-clause-cause
 returns-in_err-disk-clause-cause g c = λ is. let x = c.in_err-disk.ensures.cause in end_fails _ _ _ c.in_err-disk.field-0.0 c.from_residual.result (later_same _) c.from_residual.ensures.1 x.later x.failed
 
 pub returns-in-Some-clause-cause : goal.returns-in-Some-clause-cause
-returns-in-Some-clause-cause g c = λ is. let o = subst (λ (o : Option Accessed). IfSome o (λ d. IsNew (g.W.World.told c.args.world.now) → (size : ℕ) × Opens c.args.get.now.image.name size ReadOnly (g.W.World.told c.open_disk.new.world) d)) c.in-Some.is c.in_ok-disk.ensures.opens in end_then _ _ _ _ (c.in_ok-disk.ensures.cause).later (c.get_fitting.ensures.cause (o is).1.first (o is).1.stands)
+returns-in-Some-clause-cause g c = λ is. let o = (subst (λ (o : Option Accessed). IfSome o (IsFound c.args.get.now.image.name ReadOnly (g.W.World.told c.args.world.now) (g.W.World.told c.open_disk.new.world))) c.in-Some.is c.in_ok-disk.ensures.found) in end_then _ _ _ _ (c.in_ok-disk.ensures.cause).later (c.get_fitting-done.ensures.cause (o.opens is).1.first (o.opens is).1.stands)
 
 pub returns-in-None-clause-cause : goal.returns-in-None-clause-cause
 returns-in-None-clause-cause g c = λ is. end_refused _ _ (c.in_ok-disk.ensures.cause).later

@@ -1,5 +1,5 @@
 use Rattle.mini_work.specs.Causes.{counts}
-use Rattle.mini_work.proofs.Caused.{end_done, end_fails, end_refused, end_then, host_later, later_same, later_then, end_keeps}
+use Rattle.mini_work.proofs.Caused.{end_fails, end_refused, end_then, host_later, later_same, later_then, end_keeps}
 use Rattle.std.proofs.Common.{◌≡◌, inr, Bool, Err, Ok, false, true, refl, rules, subst, arith}
 use Rattle.std.proofs.lemmas.Result.{err_from_is_err_and}
 use Rattle.cms_journal.proofs.Pieces.{grown_then}
@@ -9,7 +9,7 @@ use Rattle.mini_work.specs.declared.handed_file.Way.TheVariants as ways
 use Rattle.mini_work.specs.declared.status.Status.{Status}
 use Rattle.mini_work.specs.declared.status.Status.TheVariants as status
 use Rattle.mini_work.proofs.Hosted.{same_begun, same_dropped, same_then}
-use Rattle.mini_work.proofs.KeptOut.{begun_is, got_cut, got_done, got_on, got_refused, got_same, got_still, kept_files, never_barred, refuses_err, refuses_none, written_done}
+use Rattle.mini_work.proofs.KeptOut.{begun_is, got_cut, got_on, got_refused, got_same, got_still, kept_files, never_barred, refuses_err, refuses_never, refuses_none, written_done}
 use Rattle.mini_work.proofs.PartsJoined.{cut_any, ended_any}
 use Rattle.mini_work.proofs.get.get_to.Goals as goal
 
@@ -122,71 +122,10 @@ returns-then-not-kept-clause-refused g c = λ m s.
     let kept = subst (λ (x : Bool). Keeps w k x) no c.in_ok-kept.ensures.goes in
     inr (never_barred h w get path kept.0 (same_then h b w (same_begun h b path get.replaces begun) c.in_ok-other.ensures.files))
 
-pub returns-in_err-say_name-clause-goes : goal.returns-in_err-say_name-clause-goes
-returns-in_err-say_name-clause-goes g c =
-    let told = g.W.World.told in
-    let host = g.H.Host.told in
-    let h = host c.args.host.now in
-    let b = host c.begin_file.new.host in
-    let w = host c.get_one.new.host in
-    let k = host c.keep_file.new.host in
-    let d = c.args.disk.now in
-    let get = c.args.get.now in
-    let path = c.args.path.now in
-    let name = c.args.name.now in
-    let yes : c.in_ok-begun.begun ≡ true = c.if-not-begun.false in
-    let whole : c.in_ok-kept.kept ≡ true = c.if-not-kept.false in
-    let begun = subst (λ (x : Bool). Begins h b get path x) yes c.in_ok-begun.ensures.goes in
-    let kept = subst (λ (x : Bool). Keeps w k x) whole c.in_ok-kept.ensures.goes in
-    let P = OnHost h k (IsGotAs get path name) in
-    let p = err_from_is_err_and c.from_residual-in_err-say_name.result c.from_residual-in_err-say_name.ensures.1 in
-    cut_any P P _ _ d d c.in_err-say_name.field-0.0 p.0 _ p.1
-    (got_on get path name (told c.args.world.now) (told c.get_one.new.world) (told c.say_name.new.world) d h k (Err c.in_err-say_name.field-0.0)
-    (λ m s.
-    let w_is = written_done (told c.args.world.now) (told c.get_one.new.world) b w (shown_in get.form m name)
-    (subst (λ (x : Status). GetsOne ways.File (told c.args.world.now) (told c.get_one.new.world) b w (shown_in get.form m name) (Ok x)) c.in-Done.is
-    (c.in_ok-other.ensures.gets m s)) in
-    (w_is.bytes, w_is.text_is, w_is.told, kept_files path w_is.bytes get.replaces h b w k begun w_is.wrote kept))
-    (c.in_err-say_name.ensures.goes d))
-
-pub returns-in_err-say_name-clause-refused : goal.returns-in_err-say_name-clause-refused
-returns-in_err-say_name-clause-refused g c = λ m s.
-    let p = err_from_is_err_and c.from_residual-in_err-say_name.result c.from_residual-in_err-say_name.ensures.1 in
-    refuses_err (g.H.Host.told c.args.host.now) c.args.get.now c.args.path.now (shown_in c.args.get.now.form m c.args.name.now) p.0 _ p.1
-
-pub returns-clause-goes : goal.returns-clause-goes
-returns-clause-goes g c =
-    let told = g.W.World.told in
-    let host = g.H.Host.told in
-    let h = host c.args.host.now in
-    let b = host c.begin_file.new.host in
-    let w = host c.get_one.new.host in
-    let k = host c.keep_file.new.host in
-    let d = c.args.disk.now in
-    let get = c.args.get.now in
-    let path = c.args.path.now in
-    let name = c.args.name.now in
-    let yes : c.in_ok-begun.begun ≡ true = c.if-not-begun.false in
-    let whole : c.in_ok-kept.kept ≡ true = c.if-not-kept.false in
-    let begun = subst (λ (x : Bool). Begins h b get path x) yes c.in_ok-begun.ensures.goes in
-    let kept = subst (λ (x : Bool). Keeps w k x) whole c.in_ok-kept.ensures.goes in
-    got_done get path name (told c.args.world.now) (told c.get_one.new.world) (told c.say_name.new.world) d h k c.in_ok-say_name.field-0
-    (λ m s.
-    let w_is = written_done (told c.args.world.now) (told c.get_one.new.world) b w (shown_in get.form m name)
-    (subst (λ (x : Status). GetsOne ways.File (told c.args.world.now) (told c.get_one.new.world) b w (shown_in get.form m name) (Ok x)) c.in-Done.is
-    (c.in_ok-other.ensures.gets m s)) in
-    (w_is.bytes, w_is.text_is, w_is.told, kept_files path w_is.bytes get.replaces h b w k begun w_is.wrote kept))
-    (c.in_ok-say_name.ensures.goes d)
-
-pub returns-in_err-say_name-clause-grown : goal.returns-in_err-say_name-clause-grown
-returns-in_err-say_name-clause-grown g c =
-    let told = g.W.World.told in
-    grown_then (told c.args.world.now) (told c.get_one.new.world) (told c.say_name.new.world) c.in_ok-other.ensures.grown c.in_err-say_name.ensures.grown
-
 pub returns-clause-grown : goal.returns-clause-grown
 returns-clause-grown g c =
     let told = g.W.World.told in
-    grown_then (told c.args.world.now) (told c.get_one.new.world) (told c.say_name.new.world) c.in_ok-other.ensures.grown c.in_ok-say_name.ensures.grown
+    grown_then (told c.args.world.now) (told c.get_one.new.world) (told c.say_name.new.world) c.in_ok-other.ensures.grown c.say_name.ensures.grown
 
 pub returns-in_default : goal.returns-in_default
 returns-in_default g c =
@@ -228,8 +167,42 @@ returns-in_err-kept-clause-cause g c = λ m s. let at = counts g.W.World g.H.Hos
 pub returns-then-not-kept-clause-cause : goal.returns-then-not-kept-clause-cause
 returns-then-not-kept-clause-cause g c = λ m s. let at = counts g.W.World g.H.Host in end_refused _ _ (later_then _ _ _ (later_then _ _ _ (c.in_ok-begun.ensures.cause (at c.args.world.now c.args.host.now)).later (c.in_ok-other.ensures.cause m s).later) (c.in_ok-kept.ensures.cause (at c.get_one.new.world c.get_one.new.host)).later)
 
-pub returns-in_err-say_name-clause-cause : goal.returns-in_err-say_name-clause-cause
-returns-in_err-say_name-clause-cause g c = λ m s. let at = counts g.W.World g.H.Host in let x = c.in_err-say_name.ensures.cause (g.H.Host.faults c.keep_file.new.host) in end_fails _ _ _ c.in_err-say_name.field-0.0 c.from_residual-in_err-say_name.result (later_then _ _ _ (later_then _ _ _ (c.in_ok-begun.ensures.cause (at c.args.world.now c.args.host.now)).later (c.in_ok-other.ensures.cause m s).later) (c.in_ok-kept.ensures.cause (at c.get_one.new.world c.get_one.new.host)).later) c.from_residual-in_err-say_name.ensures.1 x.later x.failed
+pub returns-clause-refused : goal.returns-clause-refused
+returns-clause-refused g c = λ m s.
+    refuses_never (g.H.Host.told c.args.host.now) c.args.get.now c.args.path.now (shown_in c.args.get.now.form m c.args.name.now) c.say_name.result c.say_name.ensures.done
 
 pub returns-clause-cause : goal.returns-clause-cause
-returns-clause-cause g c = λ m s. let at = counts g.W.World g.H.Host in end_done _ _ (later_then _ _ _ (later_then _ _ _ (later_then _ _ _ (c.in_ok-begun.ensures.cause (at c.args.world.now c.args.host.now)).later (c.in_ok-other.ensures.cause m s).later) (c.in_ok-kept.ensures.cause (at c.get_one.new.world c.get_one.new.host)).later) (c.in_ok-say_name.ensures.cause (g.H.Host.faults c.keep_file.new.host)).later)
+returns-clause-cause g c = λ m s. let at = counts g.W.World g.H.Host in end_then _ _ _ _ (later_then _ _ _ (later_then _ _ _ (c.in_ok-begun.ensures.cause (at c.args.world.now c.args.host.now)).later (c.in_ok-other.ensures.cause m s).later) (c.in_ok-kept.ensures.cause (at c.get_one.new.world c.get_one.new.host)).later) (c.say_name.ensures.cause (g.H.Host.faults c.keep_file.new.host))
+
+pub returns-clause-goes : goal.returns-clause-goes
+returns-clause-goes g c =
+    let told = g.W.World.told in
+    let host = g.H.Host.told in
+    let h = host c.args.host.now in
+    let b = host c.begin_file.new.host in
+    let w = host c.get_one.new.host in
+    let k = host c.keep_file.new.host in
+    let d = c.args.disk.now in
+    let get = c.args.get.now in
+    let path = c.args.path.now in
+    let name = c.args.name.now in
+    let yes : c.in_ok-begun.begun ≡ true = c.if-not-begun.false in
+    let whole : c.in_ok-kept.kept ≡ true = c.if-not-kept.false in
+    let begun = subst (λ (x : Bool). Begins h b get path x) yes c.in_ok-begun.ensures.goes in
+    let kept = subst (λ (x : Bool). Keeps w k x) whole c.in_ok-kept.ensures.goes in
+    got_on get path name (told c.args.world.now) (told c.get_one.new.world) (told c.say_name.new.world) d h k c.say_name.result
+    (λ m s.
+    let w_is = written_done (told c.args.world.now) (told c.get_one.new.world) b w (shown_in get.form m name)
+    (subst (λ (x : Status). GetsOne ways.File (told c.args.world.now) (told c.get_one.new.world) b w (shown_in get.form m name) (Ok x)) c.in-Done.is
+    (c.in_ok-other.ensures.gets m s)) in
+    (w_is.bytes, w_is.text_is, w_is.told, kept_files path w_is.bytes get.replaces h b w k begun w_is.wrote kept))
+    (c.say_name.ensures.goes d)
+
+pub returns-in_err-other-clause-grown : goal.returns-in_err-other-clause-grown
+returns-in_err-other-clause-grown g c = c.in_err-other.ensures.grown
+
+pub returns-in_err-kept-clause-grown : goal.returns-in_err-kept-clause-grown
+returns-in_err-kept-clause-grown g c = c.in_ok-other.ensures.grown
+
+pub returns-then-not-kept-clause-grown : goal.returns-then-not-kept-clause-grown
+returns-then-not-kept-clause-grown g c = c.in_ok-other.ensures.grown

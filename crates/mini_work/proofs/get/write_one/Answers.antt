@@ -61,3 +61,18 @@ returns-in_err-push-in-Done-clause-cause g c = λ m s. end_lacks _ _ c.from_resi
 
 pub returns-in_ok-push-in-Done-clause-cause : goal.returns-in_ok-push-in-Done-clause-cause
 returns-in_ok-push-in-Done-clause-cause g c = λ m s. end_done _ _ (c.in_ok-other.ensures.cause m s).later
+
+pub returns-in_err-other-clause-grown : goal.returns-in_err-other-clause-grown
+returns-in_err-other-clause-grown g c = c.in_err-other.ensures.grown
+
+pub returns-in_err-push-in-Done-clause-grown : goal.returns-in_err-push-in-Done-clause-grown
+returns-in_err-push-in-Done-clause-grown g c = c.in_ok-other.ensures.grown
+
+pub returns-in_ok-push-in-Done-clause-grown : goal.returns-in_ok-push-in-Done-clause-grown
+returns-in_ok-push-in-Done-clause-grown g c = c.in_ok-other.ensures.grown
+
+pub returns-in_ok-push-in-Done-clause-begun : goal.returns-in_ok-push-in-Done-clause-begun
+returns-in_ok-push-in-Done-clause-begun g c = c.in_ok-other.ensures.begun refl
+
+pub returns-in_ok-push-in-Done-clause-files : goal.returns-in_ok-push-in-Done-clause-files
+returns-in_ok-push-in-Done-clause-files g c = c.in_ok-other.ensures.files

@@ -19,14 +19,14 @@ reads-init g c = record {
 
 pub measure_bytes-requires-clause-format : goal.measure_bytes-requires-clause-format
 measure_bytes-requires-clause-format g c =
-    c.format_of-format.ensures ∙ (format_is c.args.layout ∙ ap sized (sym c.reads.invariant.to.size))
+    c.form_of-format.ensures.format ∙ (format_is c.args.layout ∙ ap sized (sym c.reads.invariant.to.size))
 
 pub measure_bytes-requires-clause-counted : goal.measure_bytes-requires-clause-counted
 measure_bytes-requires-clause-counted g c = c.reads.invariant.to.counted
 
 pub measure_last-requires-clause-format : goal.measure_last-requires-clause-format
 measure_last-requires-clause-format g c =
-    c.format_of-format.ensures ∙ (format_is c.args.layout ∙ ap sized (sym c.reads.invariant.to.size))
+    c.form_of-format.ensures.format ∙ (format_is c.args.layout ∙ ap sized (sym c.reads.invariant.to.size))
 
 pub measure_last-requires-clause-counted : goal.measure_last-requires-clause-counted
 measure_last-requires-clause-counted g c = c.reads.invariant.to.counted

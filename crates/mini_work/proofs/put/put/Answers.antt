@@ -1,19 +1,18 @@
 use Rattle.mini_work.proofs.Caused.{end_fails, end_refused, end_then, later_same}
-use Rattle.std.proofs.Common.{ℕ, Option, subst, true, ◌≡◌}
+use Rattle.std.proofs.Common.{Option, subst}
 use Rattle.std.specs.Prelude.{IfSome}
 use Rattle.std.proofs.lemmas.Result.{err_from_is_err_and}
 use Rattle.cms_journal.specs.declared.event.Access.TheVariants.{ReadWrite}
 use Rattle.cms_disk.specs.Disks.{Accessed}
-use Rattle.mini_work.specs.CommandActs.{MayChange}
-use Rattle.mini_work.specs.OpenedImages.{IsNew, Opens}
+use Rattle.mini_work.specs.FoundDisks.{IsFound}
 use Rattle.mini_work.specs.Puts.{IsPutting}
 use Rattle.mini_work.proofs.Hosted.{files_then}
 use Rattle.mini_work.proofs.Worked.{shut_err, shut_none, worked_open}
 use Rattle.mini_work.proofs.put.put.Goals as goal
 
-pub put_timed-requires-clause-may : goal.put_timed-requires-clause-may
-put_timed-requires-clause-may g c =
-    subst (λ (o : Option Accessed). IfSome o (MayChange (g.W.World.told c.open_disk.new.world))) c.in-Some.is c.in_ok-disk.ensures.may
+pub put_timed-done-requires-clause-may : goal.put_timed-done-requires-clause-may
+put_timed-done-requires-clause-may g c =
+    (subst (λ (o : Option Accessed). IfSome o (IsFound c.args.put.now.image.name ReadWrite (g.W.World.told c.args.world.now) (g.W.World.told c.open_disk.new.world))) c.in-Some.is c.in_ok-disk.ensures.found).may
 
 pub returns-in_err-disk-clause-goes : goal.returns-in_err-disk-clause-goes
 returns-in_err-disk-clause-goes g c = λ files told is.
@@ -25,11 +24,11 @@ returns-in-Some-clause-goes g c = λ files there is.
     let told = g.W.World.told in
     let host = g.H.Host.told in
     let name = c.args.put.now.image.name in
-    let opens = subst (λ (o : Option Accessed). IfSome o (λ d. IsNew (told c.args.world.now)
-    → (size : ℕ) × Opens name size ReadWrite (told c.open_disk.new.world) d)) c.in-Some.is c.in_ok-disk.ensures.opens in
-    worked_open name ReadWrite (IsPutting files c.args.put.now) (told c.open_disk.new.world) (told c.put_timed.new.world)
-    c.in-Some.disk c.put_timed.new.disk c.put_timed.result (opens is)
-    (c.put_timed.ensures.goes files (files_then (host c.args.host.now) (host c.open_disk.new.host) files c.in_ok-disk.ensures.files there))
+    let found = subst (λ (o : Option Accessed). IfSome o (IsFound name ReadWrite (told c.args.world.now) (told c.open_disk.new.world))) c.in-Some.is
+    c.in_ok-disk.ensures.found in
+    worked_open name ReadWrite (IsPutting files c.args.put.now) (told c.open_disk.new.world) (told c.put_timed-done.new.world)
+    c.in-Some.disk c.put_timed-done.new.disk c.put_timed-done.result (found.opens is)
+    (c.put_timed-done.ensures.goes files (files_then (host c.args.host.now) (host c.open_disk.new.host) files c.in_ok-disk.ensures.files there))
 
 pub returns-in-None-clause-goes : goal.returns-in-None-clause-goes
 returns-in-None-clause-goes g c = λ files told is.
@@ -39,7 +38,7 @@ pub returns-in_err-disk-clause-cause : goal.returns-in_err-disk-clause-cause
 returns-in_err-disk-clause-cause g c = let x = c.in_err-disk.ensures.cause in end_fails _ _ _ c.in_err-disk.field-0.0 c.from_residual.result (later_same _) c.from_residual.ensures.1 x.later x.failed
 
 pub returns-in-Some-clause-cause : goal.returns-in-Some-clause-cause
-returns-in-Some-clause-cause g c = end_then _ _ _ _ (c.in_ok-disk.ensures.cause).later (c.put_timed.ensures.cause (subst (λ (o : Option Accessed). IfSome o (λ d. d.writable ≡ true)) c.in-Some.is c.in_ok-disk.ensures.writable))
+returns-in-Some-clause-cause g c = end_then _ _ _ _ (c.in_ok-disk.ensures.cause).later (c.put_timed-done.ensures.cause (subst (λ (o : Option Accessed). IfSome o (IsFound c.args.put.now.image.name ReadWrite (g.W.World.told c.args.world.now) (g.W.World.told c.open_disk.new.world))) c.in-Some.is c.in_ok-disk.ensures.found).writable)
 
 pub returns-in-None-clause-cause : goal.returns-in-None-clause-cause
 returns-in-None-clause-cause g c = end_refused _ _ (c.in_ok-disk.ensures.cause).later
