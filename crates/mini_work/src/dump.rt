@@ -227,11 +227,14 @@ fn push_label(text: &mut String, bytes: &[u8], unit: &UnitInfo) -> Result<(), Al
 fn push_numbers(text: &mut String, bytes: &[u8]) -> Result<(), AllocError>
     requires { 80 ≤ length bytes.now }
 {
-    writeln!(text, "\nblock size: {}", word_at(bytes, 12))?;
-    writeln!(text, "directory: block {}", word_at(bytes, 16))?;
-    writeln!(text, "blocks: {}", word_at(bytes, 28))?;
-    writeln!(text, "used: {}", word_at(bytes, 32))?;
-    writeln!(text, "entry size: {}", word_at(bytes, 36))
+    let (size, origin) = (word_at(bytes, 12), word_at(bytes, 16));
+    let (blocks, used) = (word_at(bytes, 28), word_at(bytes, 32));
+    let entry_size = word_at(bytes, 36);
+    writeln!(text, "\nblock size: {size}\ndirectory: block {origin}")?;
+    writeln!(
+        text,
+        "blocks: {blocks}\nused: {used}\nentry size: {entry_size}"
+    )
 }
 
 fn label_test(why: LabelFault) -> &'static str {

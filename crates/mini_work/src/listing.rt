@@ -1,5 +1,5 @@
 // Files of an image are listed, and what the image is.
-ghost use Rattle.std.specs.Prelude.{◌≡◌, ◌∷◌, ◌++◌, ℕ, map, IfOk, OnOk};
+ghost use Rattle.std.specs.Prelude.{◌≡◌, [], ◌∷◌, ◌++◌, ℕ, map, IfOk, OnOk};
 ghost use Rattle.cms_journal.specs.declared.event.Access.TheVariants.{ReadOnly};
 ghost use Rattle.cms_edf.specs.FilesTold.{infos_in};
 ghost use Rattle.cms_model.specs.Acts.{typed_line};
@@ -240,35 +240,55 @@ fn fact_lines(alloc: Global, held: &Held) -> Result<Vec<Vec<u8>>, AllocError>
     ensures { IfOk result (λ lines. map (λ line. line.items) lines.items
         ≡ spec.facts held.now.volume) }
 {
-    let space = held.space();
-    let used = space.total.saturating_sub(space.free);
     let mut lines = Vec::new(alloc);
-    lines.push(fact(
-        alloc,
-        &coded(b"label: "),
-        without_trailing_blanks(&space.volid),
-    )?)?;
-    lines.push(count(alloc, &coded(b"block size: "), space.bsize)?)?;
-    lines.push(count(alloc, &coded(b"blocks: "), space.total)?)?;
-    lines.push(count(alloc, &coded(b"used: "), used)?)?;
-    lines.push(count(alloc, &coded(b"free: "), space.free)?)?;
-    lines.push(count(alloc, &coded(b"lost: "), held.lost())?)?;
-    lines.push(count(alloc, &coded(b"files: "), held.count())?)?;
+    add_facts(alloc, &mut lines, held)?;
     Ok(lines)
 }
 
-// A value behind its key.
-fn fact(alloc: Global, key: &[u8], value: &[u8]) -> Result<Vec<u8>, AllocError>
-    ensures { IfOk result (λ line. line.items ≡ key.now ++ value.now) }
+// Adds a line for each fact.
+fn add_facts(alloc: Global, lines: &mut Vec<Vec<u8>>, held: &Held) -> Result<(), AllocError>
+    ensures { OnOk result (map (λ line. line.items) lines.new.items
+        ≡ map (λ line. line.items) lines.old.items ++ spec.facts held.now.volume) }
+{
+    let space = held.space();
+    let used = space.total.saturating_sub(space.free);
+    let label = without_trailing_blanks(&space.volid);
+    add_fact(alloc, lines, &coded(b"label: "), label)?;
+    add_count(alloc, lines, &coded(b"block size: "), space.bsize)?;
+    add_count(alloc, lines, &coded(b"blocks: "), space.total)?;
+    add_count(alloc, lines, &coded(b"used: "), used)?;
+    add_count(alloc, lines, &coded(b"free: "), space.free)?;
+    add_count(alloc, lines, &coded(b"lost: "), held.lost())?;
+    add_count(alloc, lines, &coded(b"files: "), held.count())?;
+    Ok(())
+}
+
+// Adds the line of a number behind its key.
+fn add_count(
+    alloc: Global,
+    lines: &mut Vec<Vec<u8>>,
+    key: &[u8],
+    number: u32,
+) -> Result<(), AllocError>
+    ensures { OnOk result (map (λ line. line.items) lines.new.items
+        ≡ map (λ line. line.items) lines.old.items ++ (key.now ++ decimal_of number) ∷ []) }
+{
+    add_fact(alloc, lines, key, decimal(alloc, number)?.bytes())?;
+    Ok(())
+}
+
+// Adds the line of a value behind its key.
+fn add_fact(
+    alloc: Global,
+    lines: &mut Vec<Vec<u8>>,
+    key: &[u8],
+    value: &[u8],
+) -> Result<(), AllocError>
+    ensures { OnOk result (map (λ line. line.items) lines.new.items
+        ≡ map (λ line. line.items) lines.old.items ++ (key.now ++ value.now) ∷ []) }
 {
     let mut line = key.to_vec(alloc)?;
     line.extend_from_slice(value)?;
-    Ok(line)
-}
-
-// A number behind its key.
-fn count(alloc: Global, key: &[u8], number: u32) -> Result<Vec<u8>, AllocError>
-    ensures { IfOk result (λ line. line.items ≡ key.now ++ decimal_of number) }
-{
-    fact(alloc, key, decimal(alloc, number)?.bytes())
+    lines.push(line)?;
+    Ok(())
 }
