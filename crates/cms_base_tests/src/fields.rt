@@ -189,11 +189,13 @@ fn tell_moment(into: &mut Report, seconds: i64, offset: i32) {
 }
 
 fn tell_moment_of(into: &mut Report, seconds: &str, offset: &str) {
-    let offset = offset.parse().unwrap_or(i32::MAX);
-    match seconds.parse() {
-        Ok(seconds) => tell_moment(into, seconds, offset),
-        Err(_) => into.push_str("no seconds"),
-    }
+    let Ok(seconds) = seconds.parse() else {
+        return into.push_str("no seconds");
+    };
+    let Ok(offset) = offset.parse() else {
+        return into.push_str("no offset");
+    };
+    tell_moment(into, seconds, offset)
 }
 
 fn tell_stamp(into: &mut Report, year: u32) {
